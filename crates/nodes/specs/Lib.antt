@@ -1,0 +1,5 @@
+pub mod Words
+pub mod Search
+pub mod Standard
+pub mod Extends
+pub mod Clear
