@@ -5,3 +5,5 @@ pub mod ExtendsLaws
 pub mod StandardLaws
 pub mod ClearLaws
 pub mod GrowthLaws
+pub mod TestLaws
+pub mod CertificateLaws

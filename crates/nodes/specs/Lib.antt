@@ -3,3 +3,4 @@ pub mod Search
 pub mod Standard
 pub mod Extends
 pub mod Clear
+pub mod Certificate

@@ -5,6 +5,10 @@ ghost use lib.ListN.{length};
 ghost use Rattle.nodes.specs.Words.{varAt, lowAt, highAt, hasWords, withNode, withTerminals};
 ghost use Rattle.nodes.specs.Clear.{clearOf};
 
+mod standard;
+
+pub use standard::is_standard;
+
 // The nodes that a slice of this many words holds.
 pub fn capacity(words: usize) -> u32
     ensures { λ r. ⌜ r ≡ min (words / 3) 16384 ⌝ }
