@@ -1,0 +1,17 @@
+pub mod ValueLaws
+pub mod CanonLaws
+pub mod AssignmentLaws
+pub mod BuildLaws
+pub mod MakeLaws
+pub mod PartsLaws
+pub mod IteLaws
+pub mod AgainLaws
+pub mod TableLaws
+pub mod ContractLaws
+pub mod AnyLaws
+pub mod UserLaws
+pub mod Promises
+pub mod ShowLaws
+pub mod TextClaims
+pub mod ShowExamples
+pub mod MeetLaws

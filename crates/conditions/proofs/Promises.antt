@@ -1,0 +1,27 @@
+-- What the conditions promise to the crates above, which cite these laws and no others. The terms are those of `Meaning`:
+-- `Stands u m w s n`: node n is below the count, on a variable from u up, and stands for m unless the store is full;
+-- `Builds w s P x`: the step from w and s to x leaves standard form, extends the store, leaves a full store as it is, and P holds of its answer.
+
+-- the store grows: older nodes stay
+pub use Rattle.nodes.proofs.ExtendsLaws.{extends-refl, extends-trans, agree-var}
+-- standard form as a test and as facts, each the other; the two terminals alone; clearing
+pub use Rattle.nodes.proofs.StandardLaws.{standard-is, is-standard}
+pub use Rattle.nodes.proofs.GrowthLaws.{terminals-standard, clear-standard}
+pub use Rattle.nodes.proofs.ClearLaws.{clear-length, clear-below, clear-zero, clear-past}
+-- programs: an answer, a step after a step, what is kept on the way
+pub use Rattle.conditions.proofs.BuildLaws.{pure-builds, next-builds, builds-weaker, builds-same, builds-clear, was-free, keep, clear-keep, next-is, each-builds, each-end, each-step}
+-- meanings
+pub use Rattle.conditions.proofs.BuildLaws.{stands-value, stands-same, stands-from, stands-0, stands-1}
+pub use Rattle.conditions.proofs.IteLaws.{ite-builds, not-builds, and-builds, or-builds}
+pub use Rattle.conditions.proofs.MakeLaws.{variable-builds}
+pub use Rattle.conditions.proofs.AnyLaws.{any-builds, some-same}
+pub use Rattle.conditions.proofs.AssignmentLaws.{change-same, change-other, some-has, some-all}
+pub use Rattle.conditions.proofs.ValueLaws.{value-0, value-1}
+-- row 5, and node 1
+pub use Rattle.conditions.proofs.UserLaws.{user-is, is-user, user-stands, stands-user, stands-turns, stands-always, always-stands}
+-- a building function after another, and the table to begin with
+pub use Rattle.conditions.proofs.ContractLaws.{did-next, zeros-sound}
+-- rows 6 and 7
+pub use Rattle.conditions.proofs.MeetLaws.{neither-decides, together-decides}
+-- canonicity: the text of a condition, and one node for one meaning
+pub use Rattle.conditions.proofs.TextClaims.{text-exactly, node-same-text, one-node, text-agree}

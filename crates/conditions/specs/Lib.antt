@@ -1,0 +1,12 @@
+pub mod Build
+pub mod Make
+pub mod Ite
+pub mod Any
+pub mod Value
+pub mod Assignment
+pub mod Meaning
+pub mod Table
+pub mod Contract
+pub mod User
+pub mod Show
+pub mod Meet

@@ -1,0 +1,28 @@
+-- The terms in which the laws of building speak: what a node stands for, and what a step keeps.
+use mathlib.Core.Path.{_≡_}
+use mathlib.Core.Bool.{Bool, true, false}
+use mathlib.Core.List.{List}
+use Prim.Native.Nat.{ℕ, _<_, _≤_}
+use Rattle.nodes.specs.Words.{varAt}
+use Rattle.nodes.specs.Standard.{Standard}
+use Rattle.nodes.specs.Extends.{Extends}
+use Rattle.conditions.specs.declared.Store.{Store}
+use Rattle.conditions.specs.Build.{Outcome}
+use Rattle.conditions.specs.Value.{value}
+
+-- a meaning: a function of the assignment
+abbrev pub Meaning : Type 0
+Meaning = (ℕ → Bool) → Bool
+
+-- node n stands for m, and is on a variable from u up; where the store is full it need not
+pub record Stands (u : ℕ) (m : Meaning) (w : List ℕ) (s : Store) (n : ℕ) : Type 0 where
+  pub below : n < s .count
+  pub from : u ≤ varAt w n
+  pub is : s .full ≡ false → (φ : ℕ → Bool) → value w φ n ≡ m φ
+
+-- a step from w and s to x: standard form again, growth, a full store left as it is, and P of the answer
+pub record Builds {A : Type 0} (w : List ℕ) (s : Store) (P : List ℕ → Store → A → Type 0) (x : Outcome A) : Type 0 where
+  pub standard : Standard (x .words) (x .store .count)
+  pub extends : Extends w (s .count) (x .words) (x .store .count)
+  pub stuck : s .full ≡ true → (x .words ≡ w) × (x .store ≡ s)
+  pub post : P (x .words) (x .store) (x .answer)
