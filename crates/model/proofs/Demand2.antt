@@ -1,0 +1,222 @@
+-- Demand 2: what each answer and condition means, under every 64-bit assignment.
+use mathlib.Core.Path.{_≡_, refl, sym, ap, _∙_}
+use mathlib.Core.Logic.{_↔_}
+use mathlib.Core.Bool.{Bool, true, false, cond, _&&_, not, true≢false}
+use mathlib.Core.List.{List, []}
+use Prim.Native.Nat.{ℕ, zero, suc, _^_, _<_}
+use native.Mathlib.Omega.{arith}
+use lib.Dec.{T, eqb, leb}
+use borrow.Author.Tests.{eqb-false, leb-true}
+use Rattle.nodes.specs.Standard.{Standard}
+use Rattle.nodes.proofs.BoolLaws.{split, and-both, iff-same}
+use Rattle.conditions.specs.declared.Store.{Store}
+use Rattle.conditions.specs.Build.{Outcome}
+use Rattle.conditions.specs.Make.{Variable}
+use Rattle.conditions.specs.Ite.{Ite}
+use Rattle.conditions.specs.Value.{value}
+use Rattle.conditions.specs.Assignment.{bitAt}
+use Rattle.conditions.specs.User.{isUser}
+use Rattle.conditions.specs.Meet.{neither}
+use Rattle.conditions.specs.Meaning.{Builds}
+use Rattle.conditions.proofs.Promises.{standard-is, user-stands, ite-builds, variable-builds, neither-decides, value-1, one-node}
+use Rattle.model.specs.Pairs.{Pair, admit}
+use Rattle.model.specs.Record.{Record}
+use Rattle.model.specs.Access.{Marks, Write, Asserted, Assert}
+use Rattle.model.specs.Rows.{row2, row3, row8, writeRows, readRows, assertRows, checkRows, variableRows, iteRows}
+use Rattle.model.specs.Step.{State, Call, write, read, assert, check, evaluate, variable, ite, place, filled, entered, kept, accepted, valued, node, Result, isRefused, refusal, orNine, begin, withAsserted, withEntry, enter, grown, act, unless, step}
+use Rattle.model.specs.Published.{answer, assertHolds, checkHolds, keeps, control}
+use Rattle.model.specs.Claims.{pairAt}
+use Rattle.model.specs.Meanings.{entryValues, addressArgument, wordArgument, Enters, Demand2, EnteredWhere}
+use Rattle.model.proofs.PairLaws.{T→eq, eq→T}
+use Rattle.model.proofs.MeansLaws.{Means, up, near-self}
+use Rattle.model.proofs.AccessLaws.{AssertedMean}
+use Rattle.model.proofs.RowLaws.{rows-hold}
+use Rattle.model.proofs.StepLaws.{isKept, Holds, Follows, step-follows, free-store, pair-is, and3, assert-builds, enter-builds}
+use Rattle.model.proofs.ThirdLaws.{third-is}
+use Rattle.model.proofs.EntryLaws.{held, holds-values, holds-enters}
+
+-- a call that is not refused meets no row, and acts
+acts : (c : Call) (s : State) → isRefused (step c s .answer) ≡ false → (refusal c s ≡ 0) × (step c s ≡ act c s)
+unfolding step
+acts c s q = go (refusal c s) refl q
+  where
+    go : (n : ℕ) → refusal c s ≡ n → isRefused (unless n s (act c s) .answer) ≡ false → (refusal c s ≡ 0) × (unless (refusal c s) s (act c s) ≡ act c s)
+    go zero e q = (e, rw e)
+    go (suc n) e q = absurd (true≢false q)
+
+-- nor does its program need a node past capacity
+free : {A : Type 0} (s : State) (y : Outcome A) (k : A → List ℕ → ℕ → Result) (x : Result) → x ≡ orNine s y k → isRefused (x .answer) ≡ false
+    → (y .store .full ≡ false) × (x ≡ k (y .answer) (y .words) (y .store .count))
+unfolding orNine
+free s y k x e q = split (y .store .full) (λ t. absurd (true≢false (rw (e, t) at q))) (λ t. (t, rw t at e))
+
+-- what an assert builds before its entry
+abbrev asserted : State → ℕ → List ℕ → List ℕ → Outcome Asserted
+asserted s b a d = Assert (s .rec) (s .list) b a d (s .words) (begin (s .rec))
+
+-- such an assert
+module _ (s : State) (b : ℕ) (a d : List ℕ) (n : isRefused (step (assert b a d) s .answer) ≡ false) where
+  abbrev x : Outcome Asserted
+  x = asserted s b a d
+
+  -- its Write, where it is entered
+  abbrev y : Outcome Marks
+  y = Write (s .rec .n) b (x .answer .unless) a (x .words) (record { count = x .store .count; full = false })
+
+  asserts : (x .store .full ≡ false) × (step (assert b a d) s ≡ enter s b a d (x .answer) (x .words) (x .store .count))
+  unfolding act
+  asserts = free s x (enter s b a d) _ (acts (assert b a d) s n .1) n
+
+  -- it is kept, or entered by its Write
+  kept-or-entered : {C : Type 0} → (step (assert b a d) s ≡ record { answer = kept; after = withAsserted s (x .words) (x .store .count) (x .answer .condition) } → C)
+      → (eqb (x .answer .keep) 1 ≡ false → y .store .full ≡ false
+      → step (assert b a d) s ≡ record { answer = entered; after = withEntry (withAsserted s (y .words) (y .store .count) (x .answer .condition)) (y .answer) a d } → C)
+      → C
+  unfolding enter
+  kept-or-entered f g =
+      let e = asserts .1 in
+      split (eqb (x .answer .keep) 1) (λ t. f (rw t at e))
+      (λ t. split (row8 (s .rec) (s .words) (s .list))
+      (λ u. let z = free s y _ _ (rw (t, u) at e) n in g t (z .0) (z .1))
+      (λ u. absurd (true≢false (rw (e, t, u) at n))))
+
+-- two pairs that admit the same are one
+same-admit : (p q : Pair) → ((b : Bool) → T (admit p b) ↔ T (admit q b)) → p ≡ q
+same-admit p q f = pair-is p q (one (f true)) (one (f false))
+  where
+    one : {x y : Bool} → T x ↔ T y → x ≡ y
+    one {x} {y} f = iff-same x y (λ e. T→eq y (f .0 (eq→T e))) (λ e. T→eq x (f .1 (eq→T e)))
+
+-- under one assignment
+module _ (a : ℕ) (small : a < 2 ^ 64) (s : State) where
+  abbrev φ : ℕ → Bool
+  φ = bitAt a
+
+  abbrev r : Record
+  r = s .rec
+
+  values-held : row2 r (s .words) ≡ true → row3 r (s .words) (s .list) ≡ true → Holds φ s (held φ s)
+  values-held e t = holds-values φ s (standard-is (s .words) (r .count) e) (third-is s t)
+
+  write-enters : (c x d : List ℕ) (k : ℕ) → step (write c x d) s .answer ≡ place k → (k ≡ r .entries) × Enters φ s (step (write c x d) s .after) (pairAt φ (s .words) c 0) x d
+  unfolding act
+  write-enters c x d k q =
+      let n : isRefused (step (write c x d) s .answer) ≡ false = ap isRefused q in
+      let A = acts (write c x d) s n in
+      let Q = rows-hold (writeRows r (s .words) (s .list) c x d) refl (A .0) in
+      let F = step-follows a small s (held φ s) (values-held (Q .1 .0) (Q .1 .1 .0)) (write c x d) in
+      let e : place k ≡ place (r .entries) = sym q ∙ ap (λ (z : Result). z .answer) (free s _ _ _ (A .1) n .1) in
+      (cc, holds-enters φ s _ (pairAt φ (s .words) c 0) x d (F .same-w) (rw q at (F .holds)))
+
+  read-fills : (e x out ws : List ℕ) → step (read e x out) s .answer ≡ filled ws → (i : ℕ) → i < r .w
+      → pairAt φ (step (read e x out) s .after .words) ws i ≡ answer (r .n) (entryValues φ s) (pairAt φ (s .words) e 0) (addressArgument φ s x) i
+  read-fills e x out ws q i l =
+      let Q = rows-hold (readRows r (s .words) (s .list) e x out) refl (acts (read e x out) s (ap isRefused q) .0) in
+      let F = step-follows a small s (held φ s) (values-held (Q .1 .0) (Q .1 .1 .0)) (read e x out) in
+      same-admit _ _ (λ b. rw q at (F .bits (λ j. false) [] i l b))
+
+  check-condition : (b : ℕ) (x d : List ℕ) → step (check b x d) s .answer ≡ accepted
+      → value (step (check b x d) s .after .words) φ (step (check b x d) s .after .rec .checked)
+      ≡ (value (s .words) φ (r .checked) && checkHolds (r .n) (r .w) (entryValues φ s) (value (s .words) φ b) (addressArgument φ s x) (wordArgument φ s d))
+  check-condition b x d q =
+      let Q = rows-hold (checkRows r (s .words) (s .list) b x d) refl (acts (check b x d) s (ap isRefused q) .0) in
+      let F = step-follows a small s (held φ s) (values-held (Q .1 .0) (Q .1 .1 .0)) (check b x d) in
+      let H : Holds φ _ _ = rw q at (F .holds) in
+      H .checked .is refl φ (near-self φ)
+
+  -- an assert that is not refused
+  module _ (b : ℕ) (x d : List ℕ) (n : isRefused (step (assert b x d) s .answer) ≡ false) where
+    abbrev keeping : Bool
+    keeping = keeps (r .n) (r .w) (entryValues φ s) (value (s .words) φ b) (addressArgument φ s x) (wordArgument φ s d)
+
+    abbrev condition : Bool
+    condition = value (s .words) φ (r .asserted) && assertHolds (r .n) (r .w) (entryValues φ s) (value (s .words) φ b) (addressArgument φ s x) (wordArgument φ s d)
+
+    no-row : refusal (assert b x d) s ≡ 0
+    no-row = acts (assert b x d) s n .0
+
+    assert-holds : Holds φ s (held φ s)
+    assert-holds = let Q = rows-hold (assertRows r (s .words) (s .list) b x d) refl no-row in values-held (Q .1 .0) (Q .1 .1 .0)
+
+    assert-follows : Follows φ s (held φ s) (assert b x d) (step (assert b x d) s)
+    assert-follows = step-follows a small s (held φ s) assert-holds (assert b x d)
+
+    assert-means : Builds (s .words) (begin r) (AssertedMean φ condition (not (value (s .words) φ b)) keeping) (asserted s b x d)
+    assert-means = assert-builds a small s (held φ s) assert-holds b x d no-row
+
+    assert-condition : value (step (assert b x d) s .after .words) φ (step (assert b x d) s .after .rec .asserted) ≡ condition
+    assert-condition =
+        let y = asserted s b x d in
+        let f = asserts s b x d n .0 in
+        let M = assert-means .post .condition in
+        let N = free-store (λ (z : Store). Means φ 8 (λ τ. condition) (y .words) z (y .answer .condition)) (y .store) f M in
+        kept-or-entered s b x d n (λ e. rw e (M .is f φ (near-self φ)))
+        (λ t g e. rw e (up (assert-means .standard) (enter-builds a small s (held φ s) assert-holds b x d no-row f) N .is g φ (near-self φ)))
+
+  -- a call that answers the node of its program
+  node-value : (c : Call) (x : Outcome ℕ) (μ : Bool) → act c s ≡ orNine s x (λ n w k. record { answer = node n; after = grown s w k }) → (n : ℕ) → step c s .answer ≡ node n
+      → (x .store .full ≡ false → value (x .words) φ (x .answer) ≡ μ) → value (step c s .after .words) φ n ≡ μ
+  node-value c x μ e n q f =
+      let B = free s x _ _ (acts c s (ap isRefused q) .1 ∙ e) (ap isRefused q) in
+      let z : node n ≡ node (x .answer) = sym q ∙ ap (λ (y : Result). y .answer) (B .1) in
+      let same : n ≡ x .answer = cc in
+      rw (B .1, same) (f (B .0))
+
+  variable-node : (v n : ℕ) → step (variable v) s .answer ≡ node n → value (step (variable v) s .after .words) φ n ≡ φ v
+  unfolding act
+  variable-node v n q =
+      let Q = rows-hold (variableRows r (s .words) v) refl (acts (variable v) s (ap isRefused q) .0) in
+      let X = variable-builds {s = begin r} {v = v} (standard-is (s .words) (r .count) (Q .1 .0)) (omega (arith, leb-true v 63 (and-both (leb 8 v) (leb v 63) (Q .1 .1 .0) .1))) in
+      node-value (variable v) (Variable v (s .words) (begin r)) (φ v) refl n q (λ f. X .post .is f φ)
+
+  ite-node : (f g h n : ℕ) → step (ite f g h) s .answer ≡ node n → value (step (ite f g h) s .after .words) φ n ≡ cond (value (s .words) φ f) (value (s .words) φ g) (value (s .words) φ h)
+  unfolding act
+  ite-node f g h n q =
+      let Q = rows-hold (iteRows r (s .words) f g h) refl (acts (ite f g h) s (ap isRefused q) .0) in
+      let U = isUser (s .words) (r .count) in
+      let u = and3 (U f) (U g) (U h) (Q .1 .1 .0) in
+      let X = ite-builds (standard-is (s .words) (r .count) (Q .1 .0)) (user-stands {s = begin r} (u .0)) (user-stands {s = begin r} (u .1)) (user-stands {s = begin r} (u .2)) in
+      node-value (ite f g h) (Ite f g h (s .words) (begin r)) _ refl n q (λ z. X .post .is z φ)
+
+evaluates : (s : State) (f a : ℕ) (v : Bool) → step (evaluate f a) s .answer ≡ valued v → v ≡ value (s .words) (bitAt a) f
+unfolding act
+evaluates s f a v q =
+    let e : valued v ≡ valued (value (s .words) (bitAt a) f) = sym q ∙ ap (λ (y : Result). y .answer) (acts (evaluate f a) s (ap isRefused q) .1) in
+    cc
+
+pub demand2 : Demand2
+unfolding Demand2
+demand2 s a small =
+    record {
+      write-enters = write-enters a small s;
+      read-fills = read-fills a small s;
+      assert-condition = assert-condition a small s;
+      assert-kept = λ b x d q. T→eq _ ((rw q at (assert-follows a small s b x d (ap isRefused q) .accepted)) .3);
+      assert-enters = λ b x d q.
+          let F = assert-follows a small s b x d (ap isRefused q) in
+          holds-enters (bitAt a) s _ (control (value (s .words) (bitAt a) b)) x d (F .same-w) (rw q at (F .holds));
+      check-condition = check-condition a small s;
+      evaluates = evaluates s;
+      variable-node = variable-node a small s;
+      ite-node = ite-node a small s;
+    }
+
+-- a node that is not node 1 is false under some 64-bit assignment
+somewhere-false : {w : List ℕ} {c : ℕ} → Standard w c → (n : ℕ) → n < c → (n ≡ 1 → ⊥) → (k : ℕ) × (k < 2 ^ 64) × (value w (bitAt k) n ≡ false)
+somewhere-false {w} S n below other =
+    let D = neither-decides S n n below below in
+    split (neither w n n) (λ t. let m = D .yes t in (m .0, m .1, m .2))
+    (λ t. absurd
+    (other
+    (one-node S n 1 below (omega (arith, S .two)) .1
+    (λ k small. split (value w (bitAt k) n) (λ e. e ∙ sym (value-1 w (bitAt k))) (λ e. absurd (D .no t (k, small, e, e)))))))
+
+pub entered-where : EnteredWhere
+unfolding EnteredWhere
+entered-where s b x d q =
+    let n : isRefused (step (assert b x d) s .answer) ≡ false = ap isRefused q in
+    let X = assert-means 0 (omega arith) s b x d n in
+    let other = kept-or-entered s b x d n (λ e. absurd (true≢false (ap isKept (rw e at q)))) (λ t f e. eqb-false _ _ t) in
+    let m = somewhere-false (X .standard) (asserted s b x d .answer .keep) (X .post .keep .below) other in
+    let K = assert-means (m .0) (m .1) s b x d n .post .keep in
+    (m .0, m .1, sym (K .is (asserts s b x d n .0) (bitAt (m .0)) (near-self (bitAt (m .0)))) ∙ m .2)

@@ -1,0 +1,17 @@
+pub mod PairLaws
+pub mod Held
+pub mod ExactLaws
+pub mod RunLaws
+pub mod MeansLaws
+pub mod HalfLaws
+pub mod AccessLaws
+pub mod ListLaws
+pub mod RowLaws
+pub mod StepLaws
+pub mod ThirdLaws
+pub mod EntryLaws
+pub mod Demand2
+pub mod ValidLaws
+pub mod FrameLaws
+pub mod Demand3
+pub mod RulingLaws

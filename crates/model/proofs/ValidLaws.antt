@@ -1,0 +1,111 @@
+-- What a state becomes when a call succeeds: it extends what was there, and is valid where that was.
+use mathlib.Core.Path.{_≡_, refl}
+use mathlib.Core.Bool.{true}
+use mathlib.Core.List.{List, _∷_, _++_}
+use Prim.Native.Nat.{ℕ, zero, suc, _+_, _*_, _-_, _<_, _≤_}
+use native.Mathlib.Nat.{suc-mul}
+use native.Mathlib.Omega.{arith}
+use native.Mathlib.Decide.{decLt}
+use lib.ListN.{length, getD, List·getD-append}
+use lib.Seq.{getD-append-add}
+use Rattle.nodes.specs.Standard.{Standard}
+use Rattle.nodes.specs.Extends.{Agree, Extends}
+use Rattle.nodes.proofs.SearchLaws.{every-is, is-every}
+use Rattle.conditions.specs.User.{isUser}
+use Rattle.conditions.proofs.Promises.{agree-var, is-standard, user-is, is-user}
+use Rattle.model.specs.Record.{size, listCapacity, appended}
+use Rattle.model.specs.Access.{Marks}
+use Rattle.model.specs.Rows.{users, row1}
+use Rattle.model.specs.Step.{State, withEntry}
+use Rattle.model.specs.Frames.{Extended, Valid}
+use Rattle.model.proofs.ListLaws.{entry-word, appended-length, appended-old, appended-past, entry-new}
+use Rattle.model.proofs.ThirdLaws.{User, Third, third-is, is-third}
+
+-- a node that 5 accepts stays one where the older nodes stay
+pub user-stays : {w w′ : List ℕ} {c : ℕ} (c′ : ℕ) → Agree w w′ c → c ≤ c′ → (n : ℕ) → isUser w c n ≡ true → isUser w′ c′ n ≡ true
+user-stays {w} {w′} {c} c′ E l n u =
+    let p = user-is w c n u in
+    is-user w′ c′ n (omega arith) (rw (agree-var E n (p .0)) (p .1))
+
+pub user-grows : {w w′ : List ℕ} {c c′ : ℕ} → Extends w c w′ c′ → (n : ℕ) → isUser w c n ≡ true → isUser w′ c′ n ≡ true
+user-grows {c′ = c′} E = user-stays c′ (E .old) (E .more)
+
+pub users-at : (s : State) (ws : List ℕ) → users (s .rec) (s .words) ws ≡ true → (i : ℕ) → i < length ws → User s (getD ws i 0)
+users-at s ws u i h = every-is (λ i. isUser (s .words) (s .rec .count) (getD ws i 0)) (length ws) 0 u i (omega arith) (omega arith)
+
+-- the state with other node words and conditions
+abbrev pub withConditions : State → List ℕ → ℕ → ℕ → ℕ → State
+withConditions s w c v u = record { rec = record { n = s .rec .n; w = s .rec .w; count = c; entries = s .rec .entries; asserted = v; checked = u }; words = w; list = s .list }
+
+module _ (s : State) (w : List ℕ) (c v u : ℕ) where
+  -- where every node that 5 accepted is still accepted
+  module _ (stays : (n : ℕ) → User s n → isUser w c n ≡ true) where
+    pub users-stay : (ws : List ℕ) → users (s .rec) (s .words) ws ≡ true → users (withConditions s w c v u .rec) w ws ≡ true
+    users-stay ws e = is-every (λ i. isUser w c (getD ws i 0)) (length ws) 0 (λ i a b. stays (getD ws i 0) (users-at s ws e i (omega arith)))
+
+    pub conditions-valid : Standard w c → (User s (s .rec .asserted) → isUser w c v ≡ true) → (User s (s .rec .checked) → isUser w c u ≡ true) → Valid s → Valid (withConditions s w c v u)
+    unfolding row1 listCapacity
+    conditions-valid S A C H =
+        let T = third-is s (H .three) in
+        record {
+          one = H .one;
+          two = is-standard w c S;
+          three = is-third (withConditions s w c v u) (record { fits = T .fits; words = λ k h. stays _ (T .words k h); asserted = A (T .asserted); checked = C (T .checked) });
+        }
+
+  module _ (E : Extends (s .words) (s .rec .count) w c) where
+    pub conditions-extended : Extended s (withConditions s w c v u)
+    conditions-extended = record { n = refl; w = refl; nodes = E; more = omega arith; len = refl; old = λ k h. refl; past = λ k h. refl }
+
+    -- and one entry more
+    pub entry-extended : (m : Marks) (a d : List ℕ) → length a ≡ 2 * s .rec .n → length d ≡ 2 * s .rec .w → s .rec .entries < listCapacity (s .rec) (s .list) → Extended s (withEntry (withConditions s w c v u) m a d)
+    unfolding listCapacity
+    entry-extended m a d na wd room =
+        let r = withConditions s w c v u .rec in
+        record {
+          n = refl;
+          w = refl;
+          nodes = E;
+          more = omega arith;
+          len = appended-length r (s .list) (m .hard) (m .soft) a d na wd room;
+          old = appended-old r (s .list) (m .hard) (m .soft) a d na wd room;
+          past = appended-past r (s .list) (m .hard) (m .soft) a d na wd room;
+        }
+
+-- an entry of nodes that 5 accepts
+module _ (s : State) (m : Marks) (a d : List ℕ) (na : length a ≡ 2 * s .rec .n) (wd : length d ≡ 2 * s .rec .w) (room : s .rec .entries < listCapacity (s .rec) (s .list))
+    (hard : User s (m .hard)) (soft : User s (m .soft)) (address : users (s .rec) (s .words) a ≡ true) (word : users (s .rec) (s .words) d ≡ true) where
+  abbrev l : List ℕ
+  l = appended (s .rec) (s .list) (m .hard) (m .soft) a d
+
+  entry-user : (i : ℕ) → i < size (s .rec) → User s (getD (m .hard ∷ m .soft ∷ (a ++ d)) i 0)
+  entry-user zero b = hard
+  entry-user (suc zero) b = soft
+  entry-user (suc (suc i)) b = go (decLt i (length a))
+    where
+      go : Dec (i < length a) → User s (getD (a ++ d) i 0)
+      go (yes h) = rw (List·getD-append a d 0 i h) (users-at s a address i h)
+      go (no h) = let z : i ≡ length a + (i - length a) = omega arith in rw (z, getD-append-add a d (i - length a) 0) (users-at s d word (i - length a) (omega arith))
+
+  word-user : Third s → (k : ℕ) → k < (s .rec .entries + 1) * size (s .rec) → Dec (k < s .rec .entries * size (s .rec)) → User s (getD l k 0)
+  word-user T k h (yes b) = rw (appended-old (s .rec) (s .list) (m .hard) (m .soft) a d na wd room k b) (T .words k b)
+  word-user T k h (no b) =
+      let i = k - s .rec .entries * size (s .rec) in
+      let z : k ≡ s .rec .entries * size (s .rec) + i = omega arith in
+      let b : i < size (s .rec) = omega (arith, suc-mul (s .rec .entries) (size (s .rec))) in
+      rw (z, ← entry-word (s .rec) l (s .rec .entries) i b, entry-new (s .rec) (s .list) (m .hard) (m .soft) a d na wd room) (entry-user i b)
+
+  pub entry-valid : Valid s → Valid (withEntry s m a d)
+  unfolding row1 listCapacity
+  entry-valid H =
+      let T = third-is s (H .three) in
+      record {
+        one = H .one;
+        two = H .two;
+        three = is-third (withEntry s m a d) (record {
+          fits = rw (appended-length (s .rec) (s .list) (m .hard) (m .soft) a d na wd room) (omega arith);
+          words = λ k h. word-user T k h (decLt k (s .rec .entries * size (s .rec)));
+          asserted = T .asserted;
+          checked = T .checked;
+        });
+      }

@@ -1,0 +1,138 @@
+-- 01, 'Accesses': each access as the program that builds its conditions. "Inner operations come first, left to right".
+use mathlib.Core.List.{List}
+use Prim.Native.Nat.{ℕ, _+_, _*_}
+use lib.ListN.{length, getD, set, replicate}
+use Rattle.conditions.specs.declared.Store.{Store}
+use Rattle.conditions.specs.Build.{Outcome, Build, pure, next, _>>=_, forEach}
+use Rattle.conditions.specs.Make.{Variable}
+use Rattle.conditions.specs.Ite.{Ite, Not, And, Or}
+use Rattle.conditions.specs.Any.{Any}
+use Rattle.model.specs.Record.{Record, hAt, lAt, entryAt, addressOf, dataOf}
+
+-- "u = 1, then for each bit u = And(u, Not And(a.h,a.l))"
+unfoldable pub uniqueBit : ℕ → ℕ → ℕ → Build ℕ
+uniqueBit h l u = do
+  x ← And h l
+  y ← Not x
+  And u y
+
+unfoldable pub Unique : ℕ → List ℕ → Build ℕ
+Unique n a = forEach (λ i. uniqueBit (hAt a i) (lAt a i)) 0 n 1
+
+-- a write's h and s
+pub record Marks : Type 0 where
+  pub hard : ℕ
+  pub soft : ℕ
+
+-- "hard = And(c.h, Not c.l)": a control that is certainly 1
+unfoldable pub Certain : ℕ → ℕ → Build ℕ
+Certain h l = do
+  x ← Not l
+  And h x
+
+-- "h = And(hard,u). s = Or(And(c.h,c.l), And(hard, Not u))."
+unfoldable pub Write : ℕ → ℕ → ℕ → List ℕ → Build Marks
+Write n ch cl a = do
+  hard ← Certain ch cl
+  u ← Unique n a
+  h ← And hard u
+  x ← And ch cl
+  y ← Not u
+  z ← And hard y
+  s ← Or x z
+  pure (record { hard = h; soft = s })
+
+-- "for each bit i, in = And(in, Ite(index i, a.h, a.l)), index i being Make(i,0,1)"
+unfoldable pub narrowBit : ℕ → ℕ → ℕ → ℕ → Build ℕ
+narrowBit i h l m = do
+  x ← Variable i
+  t ← Ite x h l
+  And m t
+
+unfoldable pub Narrow : ℕ → List ℕ → ℕ → Build ℕ
+Narrow n a m = forEach (λ i. narrowBit i (hAt a i) (lAt a i)) 0 n m
+
+-- each half of a word in its turn, "per bit h then l"
+unfoldable pub halfStep : (ℕ → ℕ → Build ℕ) → ℕ → List ℕ → Build (List ℕ)
+halfStep f j r = do
+  x ← f j (getD r j 0)
+  pure (set r j x)
+
+unfoldable pub EachHalf : (ℕ → ℕ → Build ℕ) → ℕ → List ℕ → Build (List ℕ)
+EachHalf f k r = forEach (halfStep f) 0 k r
+
+-- "each half of r .. becomes Ite(hm, e, Ite(sm, Or(e,r), r)), e the entry's half"
+unfoldable pub mergeHalf : ℕ → ℕ → ℕ → ℕ → Build ℕ
+mergeHalf hm sm e r = do
+  x ← Or e r
+  y ← Ite sm x r
+  Ite hm e y
+
+-- "For each entry, oldest first: m = in, narrowed likewise by its address; hm = And(m,h); sm = And(m,s)"
+unfoldable pub entryStep : Record → ℕ → List ℕ → List ℕ → Build (List ℕ)
+entryStep r inside entry word = do
+  m ← Narrow (r .n) (addressOf r entry) inside
+  hm ← And m (getD entry 0 0)
+  sm ← And m (getD entry 1 0)
+  EachHalf (λ k. mergeHalf hm sm (getD (dataOf r entry) k 0)) (2 * r .w) word
+
+-- "Then each half becomes Any(And(in, r))."
+unfoldable pub settleHalf : ℕ → ℕ → Build ℕ
+settleHalf inside r = do
+  x ← And inside r
+  Any x
+
+-- "Look(a): in = 1, then for each bit .. The word r starts all (1,1)."
+unfoldable pub Look : Record → List ℕ → List ℕ → Build (List ℕ)
+Look r l a = do
+  inside ← Narrow (r .n) a 1
+  word ← forEach (λ j. entryStep r inside (entryAt r l j)) 0 (r .entries) (replicate (2 * r .w) 1)
+  EachHalf (λ k. settleHalf inside) (2 * r .w) word
+
+-- "Read(e,a): Look(a), then E = And(e.h, Not e.l), then each half Ite(E, r, 1)"
+abbrev pub maskHalf : ℕ → ℕ → Build ℕ
+maskHalf e r = Ite e r 1
+
+unfoldable pub Read : Record → List ℕ → ℕ → ℕ → List ℕ → Build (List ℕ)
+Read r l eh el a = do
+  word ← Look r l a
+  e ← Certain eh el
+  EachHalf (λ k. maskHalf e) (2 * r .w) word
+
+-- "C = 1, and for each bit C = And(C, Or(Not r.h, d.h)), then with l": for each half of x and y
+unfoldable pub insideHalf : ℕ → ℕ → ℕ → Build ℕ
+insideHalf x y c = do
+  p ← Not x
+  q ← Or p y
+  And c q
+
+unfoldable pub Inside : ℕ → List ℕ → List ℕ → Build ℕ
+Inside k x y = forEach (λ j. insideHalf (getD x j 0) (getD y j 0)) 0 k 1
+
+-- "Check(b,a,d), b a condition: Look; C .. Check condition becomes And(it, Or(Not b, C))."
+unfoldable pub Check : Record → List ℕ → ℕ → List ℕ → List ℕ → Build ℕ
+Check r l b a d = do
+  word ← Look r l a
+  c ← Inside (2 * r .w) word d
+  x ← Not b
+  y ← Or x c
+  And (r .checked) y
+
+-- what an assert builds before its entry: the assert condition, Not b, and Or(Not b, And(A,C))
+pub record Asserted : Type 0 where
+  pub condition : ℕ
+  pub unless : ℕ
+  pub keep : ℕ
+
+-- "Assert(b,a,d): Look; A likewise with d inside r; assert condition becomes And(it, Or(Not b, A)). Then C as in a check; if Or(Not b, And(A,C)) is 1"
+unfoldable pub Assert : Record → List ℕ → ℕ → List ℕ → List ℕ → Build Asserted
+Assert r l b a d = do
+  word ← Look r l a
+  x ← Inside (2 * r .w) d word
+  v ← Not b
+  y ← Or v x
+  condition ← And (r .asserted) y
+  c ← Inside (2 * r .w) word d
+  z ← And x c
+  k ← Or v z
+  pure (record { condition = condition; unless = v; keep = k })

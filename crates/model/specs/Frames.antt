@@ -1,0 +1,82 @@
+-- 01, 'Turned down': what a refusal and a success leave, and that a valid state stays valid. And the count of entries.
+use mathlib.Core.Path.{_≡_}
+use mathlib.Core.Bool.{Bool, true, false, _&&_, _||_}
+use mathlib.Core.List.{List, [], _∷_}
+use Prim.Native.Nat.{ℕ, zero, suc, _+_, _*_, _<_, _≤_}
+use lib.Dec.{eqb}
+use lib.ListN.{length, getD}
+use Rattle.nodes.specs.Extends.{Extends}
+use Rattle.nodes.specs.Clear.{clearOf}
+use Rattle.model.specs.Record.{Record, size}
+use Rattle.model.specs.Rows.{row1, row2, row3}
+use Rattle.model.specs.Step.{State, Call, write, read, assert, check, evaluate, variable, ite, Answer, refused, place, filled, entered, kept, accepted, valued, node, Result, isRefused, step, run}
+
+-- "After 9, or 8 in an assert, all node words from the count to capacity are 0; otherwise untouched."
+abbrev pub isAssert : Call → Bool
+isAssert (write c a d) = false
+isAssert (read e a out) = false
+isAssert (assert b a d) = true
+isAssert (check b a d) = false
+isAssert (evaluate f a) = false
+isAssert (variable v) = false
+isAssert (ite f g h) = false
+
+abbrev pub clears : Call → ℕ → Bool
+clears c k = eqb k 9 || isAssert c && eqb k 8
+
+abbrev pub wordsAfter : Bool → State → List ℕ
+wordsAfter true s = clearOf (s .words) (s .rec .count)
+wordsAfter false s = s .words
+
+-- "A refusal .. returns its number; record, nodes below the count, list and answer are untouched."
+unfoldable pub RefusalLeaves : Type 0
+RefusalLeaves = (c : Call) (s : State) (k : ℕ) → step c s .answer ≡ refused k → step c s .after ≡ record { rec = s .rec; words = wordsAfter (clears c k) s; list = s .list }
+
+-- a refusal's number is one of the table's
+unfoldable pub RefusalNumber : Type 0
+RefusalNumber = (c : Call) (s : State) (k : ℕ) → step c s .answer ≡ refused k → (1 ≤ k) × (k ≤ 9)
+
+-- "Success changes no older node or entry and no word past the new count."
+pub record Extended (s t : State) : Type 0 where
+  pub n : t .rec .n ≡ s .rec .n
+  pub w : t .rec .w ≡ s .rec .w
+  pub nodes : Extends (s .words) (s .rec .count) (t .words) (t .rec .count)
+  pub more : s .rec .entries ≤ t .rec .entries
+  pub len : length (t .list) ≡ length (s .list)
+  pub old : (k : ℕ) → k < s .rec .entries * size (s .rec) → getD (t .list) k 0 ≡ getD (s .list) k 0
+  pub past : (k : ℕ) → t .rec .entries * size (s .rec) ≤ k → getD (t .list) k 0 ≡ getD (s .list) k 0
+
+unfoldable pub SuccessLeaves : Type 0
+SuccessLeaves = (c : Call) (s : State) → isRefused (step c s .answer) ≡ false → Extended s (step c s .after)
+
+-- rows 1 to 3 do not refuse
+pub record Valid (s : State) : Type 0 where
+  pub one : row1 (s .rec) (s .words) ≡ true
+  pub two : row2 (s .rec) (s .words) ≡ true
+  pub three : row3 (s .rec) (s .words) (s .list) ≡ true
+
+unfoldable pub StaysValid : Type 0
+StaysValid = (c : Call) (s : State) → Valid s → Valid (step c s .after)
+
+-- so that in a run "no call .. meets rows 1 to 3"
+unfoldable pub NoRow123 : Type 0
+NoRow123 = (cs : List Call) (c : Call) (s : State) (k : ℕ) → Valid s → step c (run cs s) .answer ≡ refused k → 4 ≤ k
+
+-- one for an accepted write and for an accepted assert, by its answer
+abbrev pub enters : Answer → ℕ
+enters (refused k) = 0
+enters (place k) = 1
+enters (filled r) = 0
+enters entered = 1
+enters kept = 1
+enters accepted = 0
+enters (valued b) = 0
+enters (node n) = 0
+
+abbrev pub accepts : List Call → State → ℕ
+accepts [] s = 0
+accepts (c ∷ cs) s = enters (step c s .answer) + accepts cs (step c s .after)
+
+-- "The entry count is at most accepted writes plus accepted asserts."
+unfoldable pub CountAtMost : Type 0
+CountAtMost = (cs : List Call) (s : State) → run cs s .rec .entries ≤ s .rec .entries + accepts cs s

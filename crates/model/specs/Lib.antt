@@ -1,0 +1,11 @@
+pub mod Pairs
+pub mod Record
+pub mod Access
+pub mod Rows
+pub mod Step
+pub mod Published
+pub mod Array
+pub mod Claims
+pub mod Meanings
+pub mod Frames
+pub mod Rulings

@@ -1,0 +1,71 @@
+-- Demand 2: "Every condition and word returned is, under each assignment, what the published write, read, assert and check give, with 01's enables".
+use mathlib.Core.Path.{_≡_}
+use mathlib.Core.Bool.{Bool, true, false, cond, _&&_}
+use mathlib.Core.List.{List, [], _∷_}
+use Prim.Native.Nat.{ℕ, zero, suc, _^_, _<_}
+use lib.ListN.{getD}
+use Rattle.conditions.specs.Value.{value}
+use Rattle.conditions.specs.Assignment.{bitAt}
+use Rattle.model.specs.Pairs.{Pair}
+use Rattle.model.specs.Record.{Record, entryAt, addressOf, dataOf}
+use Rattle.model.specs.Published.{Entry, entry, answer, assertHolds, checkHolds, keeps, control}
+use Rattle.model.specs.Step.{State, Call, write, read, assert, check, evaluate, variable, ite, Answer, refused, place, filled, entered, kept, accepted, valued, node, Result, isRefused, step}
+use Rattle.model.specs.Claims.{pairAt, pairs}
+
+-- entry j of the list, under an assignment
+abbrev pub entryValue : (ℕ → Bool) → State → ℕ → Entry
+entryValue φ s j =
+    let e = entryAt (s .rec) (s .list) j in
+    record {
+      hard = value (s .words) φ (getD e 0 0);
+      soft = value (s .words) φ (getD e 1 0);
+      address = pairs φ (s .words) (addressOf (s .rec) e) (s .rec .n);
+      word = pairs φ (s .words) (dataOf (s .rec) e) (s .rec .w);
+    }
+
+-- the k entries from entry j on; all of them, oldest first
+abbrev pub entriesFrom : (ℕ → Bool) → State → ℕ → ℕ → List Entry
+entriesFrom φ s j zero = []
+entriesFrom φ s j (suc k) = entryValue φ s j ∷ entriesFrom φ s (suc j) k
+
+abbrev pub entryValues : (ℕ → Bool) → State → List Entry
+entryValues φ s = entriesFrom φ s 0 (s .rec .entries)
+
+-- an address and a word among a call's arguments
+abbrev pub addressArgument : (ℕ → Bool) → State → List ℕ → List Pair
+addressArgument φ s a = pairs φ (s .words) a (s .rec .n)
+
+abbrev pub wordArgument : (ℕ → Bool) → State → List ℕ → List Pair
+wordArgument φ s d = pairs φ (s .words) d (s .rec .w)
+
+-- from s to t the published entry was made at the place after the last
+abbrev pub Enters : (ℕ → Bool) → State → State → Pair → List ℕ → List ℕ → Type 0
+Enters φ s t c a d = entryValue φ t (s .rec .entries) ≡ entry c (addressArgument φ s a) (wordArgument φ s d)
+
+-- of any state s, under one assignment, each answer and what it leaves
+pub record Meant (φ : ℕ → Bool) (s : State) : Type 0 where
+  pub write-enters : (c a d : List ℕ) (k : ℕ) → step (write c a d) s .answer ≡ place k → (k ≡ s .rec .entries) × Enters φ s (step (write c a d) s .after) (pairAt φ (s .words) c 0) a d
+  pub read-fills : (e a out r : List ℕ) → step (read e a out) s .answer ≡ filled r → (i : ℕ) → i < s .rec .w
+      → pairAt φ (step (read e a out) s .after .words) r i ≡ answer (s .rec .n) (entryValues φ s) (pairAt φ (s .words) e 0) (addressArgument φ s a) i
+  pub assert-condition : (b : ℕ) (a d : List ℕ) → isRefused (step (assert b a d) s .answer) ≡ false
+      → value (step (assert b a d) s .after .words) φ (step (assert b a d) s .after .rec .asserted)
+      ≡ (value (s .words) φ (s .rec .asserted) && assertHolds (s .rec .n) (s .rec .w) (entryValues φ s) (value (s .words) φ b) (addressArgument φ s a) (wordArgument φ s d))
+  pub assert-kept : (b : ℕ) (a d : List ℕ) → step (assert b a d) s .answer ≡ kept → keeps (s .rec .n) (s .rec .w) (entryValues φ s) (value (s .words) φ b) (addressArgument φ s a) (wordArgument φ s d) ≡ true
+  pub assert-enters : (b : ℕ) (a d : List ℕ) → step (assert b a d) s .answer ≡ entered → Enters φ s (step (assert b a d) s .after) (control (value (s .words) φ b)) a d
+  pub check-condition : (b : ℕ) (a d : List ℕ) → step (check b a d) s .answer ≡ accepted
+      → value (step (check b a d) s .after .words) φ (step (check b a d) s .after .rec .checked)
+      ≡ (value (s .words) φ (s .rec .checked) && checkHolds (s .rec .n) (s .rec .w) (entryValues φ s) (value (s .words) φ b) (addressArgument φ s a) (wordArgument φ s d))
+  pub evaluates : (f a : ℕ) (v : Bool) → step (evaluate f a) s .answer ≡ valued v → v ≡ value (s .words) (bitAt a) f
+  pub variable-node : (v n : ℕ) → step (variable v) s .answer ≡ node n → value (step (variable v) s .after .words) φ n ≡ φ v
+  pub ite-node : (f g h n : ℕ) → step (ite f g h) s .answer ≡ node n
+      → value (step (ite f g h) s .after .words) φ n ≡ cond (value (s .words) φ f) (value (s .words) φ g) (value (s .words) φ h)
+
+-- of every state, under every 64-bit assignment
+unfoldable pub Demand2 : Type 0
+Demand2 = (s : State) (a : ℕ) → a < 2 ^ 64 → Meant (bitAt a) s
+
+-- an assert is entered only where some assignment does not keep it
+unfoldable pub EnteredWhere : Type 0
+EnteredWhere =
+    (s : State) (b : ℕ) (a d : List ℕ) → step (assert b a d) s .answer ≡ entered
+    → (k : ℕ) × (k < 2 ^ 64) × (keeps (s .rec .n) (s .rec .w) (entryValues (bitAt k) s) (value (s .words) (bitAt k) b) (addressArgument (bitAt k) s a) (wordArgument (bitAt k) s d) ≡ false)

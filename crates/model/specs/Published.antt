@@ -1,0 +1,78 @@
+-- The published meaning, under one assignment: the source's write, first read, assert and check over Bools, with 01's enables.
+use mathlib.Core.Bool.{Bool, true, false, _&&_, _||_, not, cond}
+use mathlib.Core.List.{List, [], _∷_, _++_}
+use Prim.Native.Nat.{ℕ, zero, suc}
+use Rattle.model.specs.Pairs.{Pair, X, admits, unique, at}
+
+-- an entry's h, s, address and data
+pub record Entry : Type 0 where
+  pub hard : Bool
+  pub soft : Bool
+  pub address : List Pair
+  pub word : List Pair
+
+-- "hard = And(c.h, Not c.l)": the control is certainly 1
+abbrev pub certain : Pair → Bool
+certain c = c .h && not (c .l)
+
+-- "h = And(hard,u). s = Or(And(c.h,c.l), And(hard, Not u))."
+abbrev pub entry : Pair → List Pair → List Pair → Entry
+entry c a d = record {
+  hard = certain c && unique a;
+  soft = c .h && c .l || certain c && not (unique a);
+  address = a;
+  word = d;
+}
+
+-- "Ite(hm, e, Ite(sm, Or(e,r), r))", both halves, at location x
+abbrev pub union : Pair → Pair → Pair
+union e r = record { h = e .h || r .h; l = e .l || r .l }
+
+abbrev pub over : Entry → List Bool → ℕ → Pair → Pair
+over e x i r =
+    let m = admits (e .address) x in
+    cond (m && e .hard) (at (e .word) i) (cond (m && e .soft) (union (at (e .word) i) r) r)
+
+-- bit i of location x: "The word r starts all (1,1). For each entry, oldest first"
+abbrev pub scan : List Entry → List Bool → ℕ → Pair → Pair
+scan [] x i r = r
+scan (e ∷ es) x i r = scan es x i (over e x i r)
+
+abbrev pub cell : List Entry → List Bool → ℕ → Pair
+cell es x i = scan es x i X
+
+-- "Any": some location of n bits
+abbrev pub anywhere : ℕ → (List Bool → Bool) → Bool
+anywhere zero f = f []
+anywhere (suc n) f = anywhere n (λ x. f (false ∷ x)) || anywhere n (λ x. f (true ∷ x))
+
+-- "Then each half becomes Any(And(in, r))."
+abbrev pub look : ℕ → List Entry → List Pair → ℕ → Pair
+look n es a i = record {
+  h = anywhere n (λ x. admits a x && (cell es x i) .h);
+  l = anywhere n (λ x. admits a x && (cell es x i) .l);
+}
+
+-- "Read(e,a): Look(a), then E = And(e.h, Not e.l), then each half Ite(E, r, 1)"
+abbrev pub answer : ℕ → List Entry → Pair → List Pair → ℕ → Pair
+answer n es e a i = cond (certain e) (look n es a i) X
+
+-- "C = 1, and for each bit C = And(C, Or(Not r.h, d.h)), then with l": every bit of the first is inside the second's
+abbrev pub inside : ℕ → (ℕ → Pair) → (ℕ → Pair) → Bool
+inside zero r d = true
+inside (suc k) r d = (not ((r zero) .h) || (d zero) .h) && (not ((r zero) .l) || (d zero) .l) && inside k (λ i. r (suc i)) (λ i. d (suc i))
+
+-- what an assert and a check add to their condition: "Or(Not b, A)", "Or(Not b, C)"
+abbrev pub assertHolds : ℕ → ℕ → List Entry → Bool → List Pair → List Pair → Bool
+assertHolds n w es b a d = not b || inside w (at d) (look n es a)
+
+abbrev pub checkHolds : ℕ → ℕ → List Entry → Bool → List Pair → List Pair → Bool
+checkHolds n w es b a d = not b || inside w (look n es a) (at d)
+
+-- "if Or(Not b, And(A,C)) is 1 the assert is kept"
+abbrev pub keeps : ℕ → ℕ → List Entry → Bool → List Pair → List Pair → Bool
+keeps n w es b a d = not b || inside w (at d) (look n es a) && inside w (look n es a) (at d)
+
+-- "Write((b, Not b),a,d)": an assert's control pair
+abbrev pub control : Bool → Pair
+control b = record { h = b; l = not b }

@@ -1,0 +1,46 @@
+-- 01, 'Pairs and the record': the record, and pairs and entries in words.
+use mathlib.Core.Bool.{Bool}
+use mathlib.Core.List.{List, [], _∷_, _++_}
+use Prim.Native.Nat.{ℕ, _+_, _*_, _-_, _/_, min}
+use lib.ListN.{length, getD, take, drop}
+
+-- "The record has n, w, node count, entry count, assert condition, check condition."
+pub record Record : Type 0 where
+  pub n : ℕ
+  pub w : ℕ
+  pub count : ℕ
+  pub entries : ℕ
+  pub asserted : ℕ
+  pub checked : ℕ
+
+-- "lowest bit first, h before l, in words and in steps alike": the halves of pair i
+abbrev pub hAt : List ℕ → ℕ → ℕ
+hAt ws i = getD ws (2 * i) 0
+
+abbrev pub lAt : List ℕ → ℕ → ℕ
+lAt ws i = getD ws (2 * i + 1) 0
+
+-- the words from a up to e
+abbrev pub part : List ℕ → ℕ → ℕ → List ℕ
+part l a e = take (e - a) (drop a l)
+
+-- "An entry is 2+2n+2w words: h, s, address, data."
+abbrev pub size : Record → ℕ
+size r = 2 + 2 * r .n + 2 * r .w
+
+abbrev pub entryAt : Record → List ℕ → ℕ → List ℕ
+entryAt r l j = part l (j * size r) (j * size r + size r)
+
+abbrev pub addressOf : Record → List ℕ → List ℕ
+addressOf r e = part e 2 (2 + 2 * r .n)
+
+abbrev pub dataOf : Record → List ℕ → List ℕ
+dataOf r e = part e (2 + 2 * r .n) (size r)
+
+-- "List capacity is whole entries, at most 4,096."
+unfoldable pub listCapacity : Record → List ℕ → ℕ
+listCapacity r l = min (length l / size r) 4096
+
+-- "Append h,s,a,d.": the list with this entry at the place after the last
+unfoldable pub appended : Record → List ℕ → ℕ → ℕ → List ℕ → List ℕ → List ℕ
+appended r l h s a d = take (r .entries * size r) l ++ ((h ∷ s ∷ (a ++ d)) ++ drop (r .entries * size r + size r) l)

@@ -1,0 +1,96 @@
+-- 01, 'Turned down': rows 1 to 7 of the table, and 8 in a write. The first test that fails refuses, by its number; 0 is none.
+use mathlib.Core.Bool.{Bool, true, false, cond, not, _&&_}
+use mathlib.Core.List.{List, [], _∷_}
+use Prim.Native.Nat.{ℕ, _*_}
+use lib.Dec.{eqb, ltb, leb}
+use lib.ListN.{length, getD}
+use Rattle.nodes.specs.Search.{every}
+use Rattle.nodes.specs.Standard.{isStandard}
+use Rattle.conditions.specs.User.{isUser}
+use Rattle.conditions.specs.Meet.{neither, together}
+use Rattle.model.specs.Record.{Record, hAt, lAt, size, listCapacity}
+
+-- a row's number, and its test
+abbrev pub Row : Type 0
+Row = ℕ × Bool
+
+abbrev pub firstRow : List Row → ℕ
+firstRow [] = 0
+firstRow (t ∷ ts) = cond (t .1) (firstRow ts) (t .0)
+
+module _ (r : Record) (w : List ℕ) where
+  -- each word is a node that 5 accepts
+  abbrev pub users : List ℕ → Bool
+  users ws = every (λ i. isUser w (r .count) (getD ws i 0)) 0 (length ws)
+
+  -- "some assignment makes a pair neither": no such of k pairs
+  abbrev pub legalPairs : List ℕ → ℕ → Bool
+  legalPairs ws k = every (λ i. not (neither w (hAt ws i) (lAt ws i))) 0 k
+
+  -- "n or w outside its range"
+  unfoldable pub row1 : Bool
+  row1 = leb 1 (r .n) && leb (r .n) 8 && leb 1 (r .w) && leb (r .w) 16
+
+  -- "fewer than 6 words, count under 2 or over capacity, not standard form"
+  abbrev pub row2 : Bool
+  row2 = isStandard w (r .count)
+
+  -- "entry count over the list's capacity; an entry word or record condition that 5 would refuse"
+  unfoldable pub row3 : List ℕ → Bool
+  row3 l =
+      leb (r .entries) (listCapacity r l) && every (λ i. isUser w (r .count) (getD l i 0)) 0 (r .entries * size r)
+      && isUser w (r .count) (r .asserted) && isUser w (r .count) (r .checked)
+
+  -- "no space for the entry"
+  abbrev pub row8 : List ℕ → Bool
+  row8 l = ltb (r .entries) (listCapacity r l)
+
+  -- rows 1 to 3 of an access
+  abbrev pub memoryRows : List ℕ → List Row → List Row
+  memoryRows l ts = (1, row1) ∷ (2, row2) ∷ (3, row3 l) ∷ ts
+
+  -- row 4: "a slice not exactly 2n or 2w words, an enable not 2". Row 5: "an access's .. node not below the count or on an index variable".
+  -- Row 6: "some assignment makes a pair neither". Row 7: "some assignment has b and an X address bit". Row 8: "no space for the entry"
+  abbrev pub writeRows : List ℕ → List ℕ → List ℕ → List ℕ → List Row
+  writeRows l c a d =
+      memoryRows l
+      ((4, eqb (length c) 2 && eqb (length a) (2 * r .n) && eqb (length d) (2 * r .w))
+      ∷ (5, users c && users a && users d)
+      ∷ (6, legalPairs c 1 && legalPairs a (r .n) && legalPairs d (r .w))
+      ∷ (8, row8 l)
+      ∷ [])
+
+  abbrev pub readRows : List ℕ → List ℕ → List ℕ → List ℕ → List Row
+  readRows l e a out =
+      memoryRows l
+      ((4, eqb (length e) 2 && eqb (length a) (2 * r .n) && eqb (length out) (2 * r .w))
+      ∷ (5, users e && users a)
+      ∷ (6, legalPairs e 1 && legalPairs a (r .n))
+      ∷ [])
+
+  abbrev pub checkRows : List ℕ → ℕ → List ℕ → List ℕ → List Row
+  checkRows l b a d =
+      memoryRows l
+      ((4, eqb (length a) (2 * r .n) && eqb (length d) (2 * r .w))
+      ∷ (5, isUser w (r .count) b && users a && users d)
+      ∷ (6, legalPairs a (r .n) && legalPairs d (r .w))
+      ∷ [])
+
+  abbrev pub assertRows : List ℕ → ℕ → List ℕ → List ℕ → List Row
+  assertRows l b a d =
+      memoryRows l
+      ((4, eqb (length a) (2 * r .n) && eqb (length d) (2 * r .w))
+      ∷ (5, isUser w (r .count) b && users a && users d)
+      ∷ (6, legalPairs a (r .n) && legalPairs d (r .w))
+      ∷ (7, every (λ i. not (together w b (hAt a i) (lAt a i))) 0 (r .n))
+      ∷ [])
+
+  -- "Ite, evaluate and variable calls lend no list and skip 3." Row 5: "evaluate: not below the count; variable not 8 to 63"
+  abbrev pub evaluateRows : ℕ → List Row
+  evaluateRows f = (1, row1) ∷ (2, row2) ∷ (5, ltb f (r .count)) ∷ []
+
+  abbrev pub variableRows : ℕ → List Row
+  variableRows v = (1, row1) ∷ (2, row2) ∷ (5, leb 8 v && leb v 63) ∷ []
+
+  abbrev pub iteRows : ℕ → ℕ → ℕ → List Row
+  iteRows f g h = (1, row1) ∷ (2, row2) ∷ (5, isUser w (r .count) f && isUser w (r .count) g && isUser w (r .count) h) ∷ []

@@ -1,0 +1,126 @@
+-- 01, 'Panel's rulings': R1 to R11 as one table of calls and what they are to give, and the test of a line by `step`.
+use mathlib.Core.Path.{_≡_}
+use mathlib.Core.Bool.{Bool, true, false, not, _&&_}
+use mathlib.Core.List.{List, [], _∷_, _++_}
+use Prim.Native.Nat.{ℕ}
+use lib.Dec.{eqb}
+use lib.ListN.{replicate}
+use Rattle.model.specs.Step.{State, Call, write, read, check, Answer, refused, place, filled, entered, kept, accepted, valued, node, Result, step, run, freshRecord, fresh, isRefused}
+
+-- the pairs of the rulings, h before l, of node 1 (true) and node 0 (false)
+abbrev pub one : List ℕ
+one = 1 ∷ 0 ∷ []
+
+abbrev pub nought : List ℕ
+nought = 0 ∷ 1 ∷ []
+
+abbrev pub unknown : List ℕ
+unknown = 1 ∷ 1 ∷ []
+
+-- two bits, the higher first, as a read prints them: 01 is `bits nought one`, whose bit 0 is 1. In words the lowest bit is first
+abbrev pub bits : List ℕ → List ℕ → List ℕ
+bits high low = low ++ high
+
+-- '"1@0" writes 1 at 0', with enable 1. With another enable it is `write`, of enable, address and data
+infix 70 _at_
+abbrev pub _at_ : List ℕ → List ℕ → Call
+d at a = write one a d
+
+-- the two words that a read is lent: a pair that no read answers
+abbrev pub lent : List ℕ
+lent = 0 ∷ 0 ∷ []
+
+-- what the last call of a line is to give: a read's words; or, of a check, accepted and the check condition after it, 1 where it "holds" and 0 where "not"
+pub data Expected : Type 0 where
+  fills : List ℕ → Expected
+  leaves : ℕ → Expected
+
+pub record Ruling : Type 0 where
+  pub w : ℕ
+  pub before : List Call
+  pub last : Call
+  pub expected : Expected
+
+abbrev pub ruling : ℕ → List Call → Call → Expected → Ruling
+ruling w cs c e = record { w = w; before = cs; last = c; expected = e }
+
+-- "n=1, w=1, enables 1 unless named"
+unfoldable pub rulings : List Ruling
+rulings =
+    -- "R1 nothing, read 0: X."
+    ruling 1 [] (read one nought lent) (fills unknown)
+    -- "R2 1@0, read 0: 1."
+    ∷ ruling 1 (one at nought ∷ []) (read one nought lent) (fills one)
+    -- "R3 1@0, read 1: X."
+    ∷ ruling 1 (one at nought ∷ []) (read one one lent) (fills unknown)
+    -- "R4 1@0 with enable X, read 0: X."
+    ∷ ruling 1 (write unknown nought one ∷ []) (read one nought lent) (fills unknown)
+    -- "R5 1@0, again with enable X: 1."
+    ∷ ruling 1 (one at nought ∷ write unknown nought one ∷ []) (read one nought lent) (fills one)
+    -- "R6 1@0, 1@1, read X: 1."
+    ∷ ruling 1 (one at nought ∷ one at one ∷ []) (read one unknown lent) (fills one)
+    -- "R7 1@0, 0@1, read X: X."
+    ∷ ruling 1 (one at nought ∷ nought at one ∷ []) (read one unknown lent) (fills unknown)
+    -- "R8 1@0, 1@1, 0@X, read 0: X."
+    ∷ ruling 1 (one at nought ∷ one at one ∷ nought at unknown ∷ []) (read one nought lent) (fills unknown)
+    -- "R9 1@0 with enable 0, read 0: X."
+    ∷ ruling 1 (write nought nought one ∷ []) (read one nought lent) (fills unknown)
+    -- "R10 1@0, read 0 with enable X: X."
+    ∷ ruling 1 (one at nought ∷ []) (read unknown nought lent) (fills unknown)
+    -- "R11 w=2, 01@0, 10@1: check X against XX holds,"
+    ∷ ruling 2 (bits nought one at nought ∷ bits one nought at one ∷ []) (check 1 unknown (bits unknown unknown)) (leaves 1)
+    -- "against 01 not."
+    ∷ ruling 2 (bits nought one at nought ∷ bits one nought at one ∷ []) (check 1 unknown (bits nought one)) (leaves 0)
+    ∷ []
+
+-- a memory that Fresh left, with n = 1, room for 64 nodes, and 64 list words
+unfoldable pub start : ℕ → State
+start w =
+    let f = fresh (freshRecord 1 w) 1 w (replicate 192 0) in
+    record { rec = f .rec; words = f .words; list = replicate 64 0 }
+
+-- what the last call of a line gives, after the calls before it
+unfoldable pub result : Ruling → Result
+result r = step (r .last) (run (r .before) (start (r .w)))
+
+-- what a line says: no call before the last is refused,
+abbrev pub Taken : List Call → State → Type 0
+Taken [] s = Unit {0}
+Taken (c ∷ cs) s = ((k : ℕ) → step c s .answer ≡ refused k → ⊥) × Taken cs (step c s .after)
+
+-- and the last one's answer, and the check condition after it, are as expected
+abbrev pub Gives : Expected → Answer → ℕ → Type 0
+Gives (fills ws) x c = x ≡ filled ws
+Gives (leaves k) x c = (x ≡ accepted) × (c ≡ k)
+
+abbrev pub Says : Ruling → Type 0
+Says r = Taken (r .before) (start (r .w)) × Gives (r .expected) (result r .answer) (result r .after .rec .checked)
+
+unfoldable pub taken : List Call → State → Bool
+taken [] s = true
+taken (c ∷ cs) s = not (isRefused (step c s .answer)) && taken cs (step c s .after)
+
+abbrev pub sameWords : List ℕ → List ℕ → Bool
+sameWords [] [] = true
+sameWords [] (y ∷ ys) = false
+sameWords (x ∷ xs) [] = false
+sameWords (x ∷ xs) (y ∷ ys) = eqb x y && sameWords xs ys
+
+abbrev pub gives : Expected → Answer → ℕ → Bool
+gives e (refused k) c = false
+gives e (place k) c = false
+gives (fills ws) (filled r) c = sameWords r ws
+gives (leaves k) (filled r) c = false
+gives e entered c = false
+gives e kept c = false
+gives (fills ws) accepted c = false
+gives (leaves k) accepted c = eqb c k
+gives e (valued b) c = false
+gives e (node n) c = false
+
+unfoldable pub ruled : Ruling → Bool
+ruled r = taken (r .before) (start (r .w)) && gives (r .expected) (result r .answer) (result r .after .rec .checked)
+
+unfoldable pub allRuled : List Ruling → Bool
+allRuled [] = true
+allRuled (r ∷ rs) = ruled r && allRuled rs
