@@ -1,0 +1,40 @@
+use mathlib.Core.Path.{_∙_}
+use native.Mathlib.Omega.{arith}
+use Rattle.conditions.proofs.Promises.{next-is}
+use Rattle.model.specs.Access.{Read}
+use Rattle.access.proofs.LoopLaws.{more-nodes}
+use borrow.Author.Needs.{needs}
+use Rattle.access.proofs.read_word.Statement.{statement}
+use Rattle.access.proofs.read_word.Tie as tie
+
+look-requires : tie.Need-look-requires
+look-requires c κs = search needs
+
+certain-requires : tie.Need-certain-requires
+certain-requires c κs = search needs
+
+mask-requires : tie.Need-mask-requires
+mask-requires c κs =
+    let p = c .before .before .before .before .before .before .before .before .before .before .before .before .before .before .before .before .before .before .before .before .pre in
+    let e = c .before .before .before .before .before .certain .ensures in
+    (e .sound, e .node, more-nodes (e .more) (c .before .before .before .before .before .before .before .before .before .before .before .before .look .ensures .nodes))
+
+same-length : tie.Need-same-length
+same-length c = search needs
+
+same-length-2 : tie.Need-same-length-2
+same-length-2 c = search needs
+
+returns : tie.Need-returns
+unfolding Read
+returns c =
+    let p = c .before .before .before .before .before .before .before .before .before .before .before .before .before .before .before .before .before .before .before .before .before .before .before .before .before .pre in
+    let t = c .before .before .before .before .before .before .before .before .before .before .before .before .before .before .before .before .before .look .ensures in
+    let e = c .before .before .before .before .before .before .before .before .before .before .certain .ensures in
+    let u = c .before .before .before .before .mask .ensures in
+    record { is = next-is _ (t .is) (next-is _ (e .is) (rw (c .before .before .before .before .before .before .before .before .before .before .before .before .before .before .before .before .before .look .kept .1 .1 .1 .1 .1 .1 .1 .1 .0 ∙ p .2) at (u .is))); sound = u .sound; more = omega (arith, t .more, e .more, u .more); nodes = u .nodes }
+
+pub read-word-spec : {M : Type 1} → statement M
+read-word-spec =
+    tie.close
+    (tie.spec look-requires certain-requires mask-requires same-length same-length-2 returns)
