@@ -7,6 +7,7 @@ use native.Mathlib.Omega.{arith}
 use lib.Dec.{eqb, leb}
 use lib.ListN.{length, getD}
 use borrow.Author.Tests.{leb-true, ltb-true, eqb-true, not-true}
+use Rattle.nodes.specs.Words.{withTerminals}
 use Rattle.nodes.specs.Standard.{Standard}
 use Rattle.nodes.specs.Extends.{Agree, Extends}
 use Rattle.nodes.specs.Clear.{clearOf}
@@ -16,19 +17,19 @@ use Rattle.conditions.specs.Build.{Outcome}
 use Rattle.conditions.specs.Value.{value}
 use Rattle.conditions.specs.User.{isUser}
 use Rattle.conditions.specs.Meaning.{Meaning, Builds}
-use Rattle.conditions.proofs.Promises.{extends-refl, extends-trans, standard-is, clear-standard, clear-below, ite-builds, variable-builds, is-user, user-stands}
+use Rattle.conditions.proofs.Promises.{extends-refl, extends-trans, standard-is, is-standard, terminals-standard, clear-standard, clear-below, ite-builds, variable-builds, is-user, user-stands}
 use Rattle.model.specs.Record.{listCapacity}
 use Rattle.model.specs.Access.{Write, Assert, Check}
 use Rattle.model.specs.Rows.{Row, firstRow, users, row1, row2, row3, row8, writeRows, readRows, assertRows, checkRows, evaluateRows, variableRows, iteRows}
-use Rattle.model.specs.Step.{State, Call, write, read, assert, check, evaluate, variable, ite, Answer, refused, place, filled, entered, kept, accepted, node, isRefused, Result, refusal, turnedDown, orNine, begin, grown, withAsserted, withEntry, enter, act, unless, step, run}
+use Rattle.model.specs.Step.{State, Call, write, read, assert, check, evaluate, variable, ite, Answer, refused, place, filled, entered, kept, accepted, node, isRefused, Result, refusal, turnedDown, orNine, begin, grown, withAsserted, withEntry, enter, act, unless, step, run, fresh, freshRows, freshUnless, freshRecord}
 use Rattle.model.specs.Claims.{pairAt, pairs}
 use Rattle.model.specs.Meanings.{entryValues}
-use Rattle.model.specs.Frames.{clears, wordsAfter, RefusalLeaves, RefusalNumber, Extended, SuccessLeaves, Valid, StaysValid, NoRow123, enters, CountAtMost}
+use Rattle.model.specs.Frames.{clears, wordsAfter, RefusalLeaves, RefusalNumber, Extended, SuccessLeaves, Valid, StaysValid, NoRow123, FreshValid, FreshNoRow123, enters, CountAtMost}
 use Rattle.model.proofs.MeansLaws.{Means, user-means}
 use Rattle.model.proofs.AccessLaws.{write-means, read-means, check-means, assert-means}
 use Rattle.model.proofs.RowLaws.{rows-hold, row1-n, length-pairs, users-halves}
 use Rattle.model.proofs.StepLaws.{and3}
-use Rattle.model.proofs.ThirdLaws.{User, Third, third-is}
+use Rattle.model.proofs.ThirdLaws.{User, Third, third-is, is-third}
 use Rattle.model.proofs.EntryLaws.{holds-values}
 use Rattle.model.proofs.ValidLaws.{user-stays, user-grows, users-at, withConditions, users-stay, conditions-valid, conditions-extended, entry-extended, entry-valid}
 
@@ -152,17 +153,17 @@ module _ (c : Call) (s : State) where
       (λ e. conditions-leave (k (x .answer)) f (x .words) (x .store .count) (X .extends) (X .standard) (s .rec .asserted) (s .rec .checked) (user-grows (X .extends) (s .rec .asserted)) (user-grows (X .extends) (s .rec .checked)))
 
 -- what rows 1 to 5 of a check and of an assert find
-record Compares (s : State) (b : ℕ) (a d : List ℕ) : Type 0 where
-  few : s .rec .n ≤ 8
-  standard : Standard (s .words) (s .rec .count)
-  third : Third s
-  address : length a ≡ 2 * s .rec .n
-  word : length d ≡ 2 * s .rec .w
-  control : User s b
-  addresses : users (s .rec) (s .words) a ≡ true
-  datas : users (s .rec) (s .words) d ≡ true
+pub record Compares (s : State) (b : ℕ) (a d : List ℕ) : Type 0 where
+  pub few : s .rec .n ≤ 8
+  pub standard : Standard (s .words) (s .rec .count)
+  pub third : Third s
+  pub address : length a ≡ 2 * s .rec .n
+  pub word : length d ≡ 2 * s .rec .w
+  pub control : User s b
+  pub addresses : users (s .rec) (s .words) a ≡ true
+  pub datas : users (s .rec) (s .words) d ≡ true
 
-compares : (s : State) (b : ℕ) (a d : List ℕ) → row1 (s .rec) (s .words) ≡ true → row2 (s .rec) (s .words) ≡ true → row3 (s .rec) (s .words) (s .list) ≡ true
+pub compares : (s : State) (b : ℕ) (a d : List ℕ) → row1 (s .rec) (s .words) ≡ true → row2 (s .rec) (s .words) ≡ true → row3 (s .rec) (s .words) (s .list) ≡ true
     → (eqb (length a) (2 * s .rec .n) && eqb (length d) (2 * s .rec .w)) ≡ true → (isUser (s .words) (s .rec .count) b && users (s .rec) (s .words) a && users (s .rec) (s .words) d) ≡ true → Compares s b a d
 compares s b a d one two three four five =
     let l4 = and-both _ _ four in
@@ -267,6 +268,32 @@ pub no-row-123 : NoRow123
 unfolding NoRow123 run
 no-row-123 [] c s k H e = step-leaves c s .refuses k e .late H
 no-row-123 (d ∷ cs) c s k H e = no-row-123 cs c (step d s .after) k (step-leaves d s .valid H) e
+
+-- what Fresh leaves where rows 1 and 2 accept: no entries, and node 1 for both conditions
+abbrev freshState : ℕ → ℕ → List ℕ → List ℕ → State
+freshState n w ws list = record { rec = freshRecord n w; words = withTerminals ws; list = list }
+
+fresh-state-valid : (n w : ℕ) (ws list : List ℕ) → row1 (freshRecord n w) ws ≡ true → 6 ≤ length ws → Valid (freshState n w ws list)
+unfolding row1
+fresh-state-valid n w ws list one room =
+    let S = terminals-standard ws room in
+    let u = is-user (withTerminals ws) 2 1 (omega arith) (omega (arith, S .var1)) in
+    record { one = one; two = is-standard (withTerminals ws) 2 S; three = is-third (freshState n w ws list) (record { fits = omega arith; words = λ k h. absurd (omega arith); asserted = u; checked = u }) }
+
+pub fresh-valid : FreshValid
+unfolding FreshValid fresh
+fresh-valid given n w ws list e = go (freshRows n w ws) refl e
+  where
+    go : (k : ℕ) → freshRows n w ws ≡ k → freshUnless k given (freshRecord n w) ws .answer ≡ 0
+        → Valid (record { rec = freshUnless k given (freshRecord n w) ws .rec; words = freshUnless k given (freshRecord n w) ws .words; list = list })
+    go zero q e =
+        let Q = rows-hold ((1, row1 (freshRecord n w) ws) ∷ (2, leb 6 (length ws)) ∷ []) refl q in
+        fresh-state-valid n w ws list (Q .0) (leb-true 6 (length ws) (Q .1 .0))
+    go (suc k) q e = absurd (omega arith)
+
+pub fresh-no-row-123 : FreshNoRow123
+unfolding FreshNoRow123 FreshValid NoRow123
+fresh-no-row-123 given n w ws list e cs c k = no-row-123 cs c (record { rec = fresh given n w ws .rec; words = fresh given n w ws .words; list = list }) k (fresh-valid given n w ws list e)
 
 pub count-at-most : CountAtMost
 unfolding CountAtMost run

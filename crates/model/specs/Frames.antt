@@ -9,7 +9,7 @@ use Rattle.nodes.specs.Extends.{Extends}
 use Rattle.nodes.specs.Clear.{clearOf}
 use Rattle.model.specs.Record.{Record, size}
 use Rattle.model.specs.Rows.{row1, row2, row3}
-use Rattle.model.specs.Step.{State, Call, write, read, assert, check, evaluate, variable, ite, Answer, refused, place, filled, entered, kept, accepted, valued, node, Result, isRefused, step, run}
+use Rattle.model.specs.Step.{State, Call, write, read, assert, check, evaluate, variable, ite, Answer, refused, place, filled, entered, kept, accepted, valued, node, Result, isRefused, step, run, fresh}
 
 -- "After 9, or 8 in an assert, all node words from the count to capacity are 0; otherwise untouched."
 abbrev pub isAssert : Call → Bool
@@ -61,6 +61,15 @@ StaysValid = (c : Call) (s : State) → Valid s → Valid (step c s .after)
 -- so that in a run "no call .. meets rows 1 to 3"
 unfoldable pub NoRow123 : Type 0
 NoRow123 = (cs : List Call) (c : Call) (s : State) (k : ℕ) → Valid s → step c (run cs s) .answer ≡ refused k → 4 ≤ k
+
+-- "the record and node words that an accepted Fresh left, and a list of any words" are a valid state
+unfoldable pub FreshValid : Type 0
+FreshValid = (given : Record) (n w : ℕ) (ws list : List ℕ) → fresh given n w ws .answer ≡ 0 → Valid (record { rec = fresh given n w ws .rec; words = fresh given n w ws .words; list = list })
+
+-- and so no call of a run from there meets rows 1 to 3
+unfoldable pub FreshNoRow123 : Type 0
+FreshNoRow123 = (given : Record) (n w : ℕ) (ws list : List ℕ) → fresh given n w ws .answer ≡ 0 → (cs : List Call) (c : Call) (k : ℕ)
+    → step c (run cs (record { rec = fresh given n w ws .rec; words = fresh given n w ws .words; list = list })) .answer ≡ refused k → 4 ≤ k
 
 -- one for an accepted write and for an accepted assert, by its answer
 abbrev pub enters : Answer → ℕ
