@@ -249,7 +249,7 @@ fn inside_half(
 }
 
 // That each half of the word x is inside that of y.
-fn inside(words: &mut [u32], table: &mut Table, s: Store, x: &[u32], y: &[u32]) -> Built
+pub fn inside(words: &mut [u32], table: &mut Table, s: Store, x: &[u32], y: &[u32]) -> Built
     requires { ⌜ Sound (now words) (now table) s × (length (now y) ≡ length (now x)) × Nodes (s .count) (now x) × Nodes (s .count) (now y) ⌝ }
     ensures { λ b. ⌜ Did s (now (words .exit)) (now (table .exit)) b (Inside (length (now (x .entry))) (now (x .entry)) (now (y .entry)) (now (words .entry)) s) ⌝ }
 {
