@@ -1,0 +1,4 @@
+pub mod AppendLaws
+pub mod CallLaws
+pub mod WriteLaws
+pub mod CheckLaws
