@@ -20,13 +20,13 @@ use Rattle.conditions.specs.Meaning.{Builds}
 use Rattle.conditions.proofs.Promises.{builds-clear, standard-is, user-is}
 use Rattle.model.specs.Record as model
 use Rattle.model.specs.Rows.{Row, firstRow, users, row1, memoryRows, variableRows, iteRows, evaluateRows}
-use Rattle.model.specs.Step.{State, Call, node, Result, refusal, turnedDown, unless, act, step, orNine, grown, begin, freshRecord, freshRows, freshUnless, fresh}
+use Rattle.model.specs.Step.{State, Call, refused, accepted, node, Result, refusal, turnedDown, unless, act, step, orNine, grown, begin, freshRecord, freshRows, freshUnless, fresh}
 use Rattle.model.specs.Frames.{Valid}
 use Rattle.model.proofs.RowLaws.{rows-hold, row1-n}
 use Rattle.model.proofs.StepLaws.{and3}
 use Rattle.memory.specs.declared.Record.{Record}
 use Rattle.memory.specs.declared.Noded.{Noded}
-use Rattle.memory.specs.Contract.{recordOf, stateOf, nodeAnswer, nodeDone}
+use Rattle.memory.specs.Contract.{recordOf, stateOf, freshed, nodeAnswer, nodeDone}
 
 unless-turned : (k : ℕ) (s : State) (x : Result) → (k ≡ 0 → ⊥) → unless k s x ≡ turnedDown k s
 unless-turned zero s x n = absurd (n refl)
@@ -62,16 +62,16 @@ node-acts r w l w′ b x B is q =
     ∙ done-acts (b .store .full) r w w′ l (b .store .count) (b .node) (ap (λ (y : Outcome ℕ). clearOf (y .words) (r .count)) is ∙ builds-clear B) ∙ ap (noded l) (sym q)
 
 -- Fresh by its row
-fresh-unless : (k : ℕ) (g r : model.Record) (w : List ℕ) → (k ≡ 0 → ⊥) → freshUnless k g r w ≡ record { answer = k; rec = g; words = w }
+fresh-unless : (k : ℕ) (g r : model.Record) (w : List ℕ) → (k ≡ 0 → ⊥) → freshed (freshUnless k g r w) ≡ (refused k, g, w)
 fresh-unless zero g r w n = absurd (n refl)
 fresh-unless (suc k) g r w n = refl
 
 module _ (g : model.Record) (n w : ℕ) (ws : List ℕ) {k : ℕ} (e : k ≡ freshRows n w ws) where
-  pub fresh-turned : (k ≡ 0 → ⊥) → fresh g n w ws ≡ record { answer = k; rec = g; words = ws }
+  pub fresh-turned : (k ≡ 0 → ⊥) → freshed (fresh g n w ws) ≡ (refused k, g, ws)
   unfolding fresh
   fresh-turned z = rw (← e) (fresh-unless k g (freshRecord n w) ws z)
 
-  pub fresh-done : k ≡ 0 → fresh g n w ws ≡ record { answer = 0; rec = freshRecord n w; words = withTerminals ws }
+  pub fresh-done : k ≡ 0 → freshed (fresh g n w ws) ≡ (accepted, freshRecord n w, withTerminals ws)
   unfolding fresh
   fresh-done z = rw (← e, z)
 

@@ -3,7 +3,6 @@ use mathlib.Core.Path.{_≡_, refl, sym, ap, _∙_}
 use mathlib.Core.Bool.{Bool, true, false}
 use mathlib.Core.List.{List}
 use Prim.Native.Nat.{ℕ, _*_, _<_, _≤_}
-use native.Mathlib.Omega.{arith}
 use lib.ListN.{length, getD}
 use Rattle.nodes.specs.Clear.{clearOf}
 use Rattle.conditions.specs.declared.Built.{Built}
@@ -20,7 +19,7 @@ use Rattle.model.proofs.ListLaws.{capacity-words, capacity-most}
 use Rattle.model.proofs.RowLaws.{rows-hold, length-pairs, users-halves}
 use Rattle.model.proofs.ThirdLaws.{Third}
 use Rattle.model.proofs.EntryLaws.{holds-values}
-use Rattle.model.proofs.FrameLaws.{Compares, compares}
+use Rattle.model.proofs.FrameLaws.{compares}
 use Rattle.access.specs.Contract.{Nodes, Looks}
 use Rattle.memory.specs.declared.Record.{Record}
 use Rattle.memory.specs.declared.Checked.{Checked}

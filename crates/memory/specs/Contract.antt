@@ -2,7 +2,7 @@
 use mathlib.Core.Path.{_≡_}
 use mathlib.Core.Bool.{cond}
 use mathlib.Core.List.{List}
-use Prim.Native.Nat.{ℕ, _+_, _*_, _<_, _≤_}
+use Prim.Native.Nat.{ℕ, zero, suc, _+_, _*_, _<_, _≤_}
 use lib.ListN.{length, getD}
 use Rattle.nodes.specs.Clear.{clearOf}
 use Rattle.conditions.specs.declared.Built.{Built}
@@ -31,10 +31,17 @@ recordOf r = record { n = r .n; w = r .w; count = r .count; entries = r .entries
 abbrev pub stateOf : Record → List ℕ → List ℕ → State
 stateOf r w l = record { rec = recordOf r; words = w; list = l }
 
--- 01's number of an answered Fresh: that of its row, or 0
-abbrev pub freshNumber : FreshAnswer → ℕ
-freshNumber fresh.Accepted = 0
-freshNumber (fresh.Refused k) = k
+abbrev pub freshAnswer : FreshAnswer → Answer
+freshAnswer fresh.Accepted = accepted
+freshAnswer (fresh.Refused k) = refused k
+
+-- what a Fresh answers by its number, of which 0 is no row's, and leaves
+abbrev pub numbered : ℕ → Answer
+numbered zero = accepted
+numbered (suc k) = refused (suc k)
+
+abbrev pub freshed : Fresh → Answer × model.Record × List ℕ
+freshed x = (numbered (x .answer), x .rec, x .words)
 
 abbrev pub writeAnswer : WriteAnswer → Answer
 writeAnswer (write.Place k) = place k

@@ -12,7 +12,7 @@ ghost use Rattle.model.specs.Rows.{firstRow, row1, row3, memoryRows, writeRows,
 ghost use Rattle.model.specs.Step.{begin, write, check, variable, ite, evaluate, freshRecord, freshRows, fresh};
 ghost use Rattle.model.specs.Frames.{Valid};
 ghost use Rattle.access.specs.Contract.{Nodes, Looks};
-ghost use Rattle.memory.specs.Contract.{recordOf, stateOf, freshNumber, writeAnswer, checkAnswer, nodeAnswer, valueAnswer, Answers, AnswersNoList, WritesInto, writeDone, checkDone, nodeDone};
+ghost use Rattle.memory.specs.Contract.{recordOf, stateOf, freshAnswer, freshed, writeAnswer, checkAnswer, nodeAnswer, valueAnswer, Answers, AnswersNoList, WritesInto, writeDone, checkDone, nodeDone};
 
 mod append;
 mod rows;
@@ -482,7 +482,7 @@ impl Record {
 
     // Fresh: a memory with no entries and both conditions 1, over node words that hold the two terminals.
     pub fn fresh(self, words: &mut [u32], n: u32, w: u32) -> Freshened
-        ensures { λ r. ⌜ fresh (recordOf self) n w (now (words .entry)) ≡ record { answer = freshNumber (r .answer); rec = recordOf (r .after); words = now (words .exit) } ⌝ }
+        ensures { λ r. ⌜ freshed (fresh (recordOf self) n w (now (words .entry))) ≡ (freshAnswer (r .answer), recordOf (r .after), now (words .exit)) ⌝ }
     {
         let k = fresh_row(words, n, w);
         if k != 0 {
