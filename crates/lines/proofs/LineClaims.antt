@@ -1,0 +1,139 @@
+-- Demand 2, of the lines: they are the same bytes exactly when the conditions in them agree under every assignment.
+use mathlib.Core.Path.{_≡_, refl, sym, ap, subst}
+use mathlib.Core.Bool.{Bool, true, false}
+use mathlib.Core.List.{List, [], _∷_, _++_, append-assoc}
+use Prim.Native.Nat.{ℕ, zero, suc, _+_, _*_, _/_, _<_}
+use native.Mathlib.Omega.{arith}
+use borrow.Author.Tests.{ltb-true, ltb-false, eqb-true, eqb-false}
+use lib.Dec.{ltb, eqb}
+use lib.ListN.{length, getD}
+use Rattle.text.proofs.DecimalLaws.{decimal-then}
+use Rattle.conditions.specs.Value.{Tree, leaf, branch, treeOf}
+use Rattle.conditions.specs.Show.{show, textOf, Alike}
+use Rattle.conditions.proofs.TextClaims.{same-text, text-same}
+use Rattle.lines.specs.Lines.{bitText, bitsText, readWord, readLine, assertWord, assertLine, checkWord, checkLine}
+use Rattle.lines.specs.Claims.{Printed, PrintedWord, CheckLines, AssertLines, ReadLines}
+
+heads : {x y : ℕ} {r s : List ℕ} → x ∷ r ≡ y ∷ s → x ≡ y
+heads e = cc
+
+tails : {x y : ℕ} {r s : List ℕ} → x ∷ r ≡ y ∷ s → r ≡ s
+tails e = cc
+
+-- what follows the same bytes
+after : (a : List ℕ) {r s : List ℕ} → a ++ r ≡ a ++ s → r ≡ s
+after [] e = e
+after (x ∷ a) e = after a (tails e)
+
+-- a text that begins with a tree's tells the tree, and what follows
+show-first : (a b : Tree) (r s : List ℕ) → show a ++ r ≡ show b ++ s → (a ≡ b) × (r ≡ s)
+unfolding show
+show-first (leaf true) (leaf true) r s e = (refl, tails e)
+show-first (leaf false) (leaf false) r s e = (refl, tails e)
+show-first (leaf true) (leaf false) r s e = absurd (omega (arith, heads e))
+show-first (leaf false) (leaf true) r s e = absurd (omega (arith, heads e))
+show-first (leaf true) (branch v l h) r s e = absurd (omega (arith, heads e))
+show-first (leaf false) (branch v l h) r s e = absurd (omega (arith, heads e))
+show-first (branch v l h) (leaf true) r s e = absurd (omega (arith, heads e))
+show-first (branch v l h) (leaf false) r s e = absurd (omega (arith, heads e))
+show-first (branch v l h) (branch v′ l′ h′) r s e =
+    let d = decimal-then v v′ 32 32 _ _ (omega arith) (omega arith) (tails (simp append-assoc at e)) in
+    let p = show-first l l′ _ _ (d .2) in
+    let q = show-first h h′ _ _ (tails (p .1)) in
+    let ev = d .0 in
+    let el = p .0 in
+    let eh = q .0 in
+    (cc, tails (q .1))
+
+-- so a text that begins with a condition's tells the condition's text, and what follows
+text-first : (w w′ : List ℕ) (n n′ : ℕ) (r s : List ℕ) → textOf w n ++ r ≡ textOf w′ n′ ++ s → (textOf w n ≡ textOf w′ n′) × (r ≡ s)
+text-first w w′ n n′ r s e =
+    let p = show-first (treeOf w n) (treeOf w′ n′) r s e in
+    (ap show (p .0), p .1)
+
+-- conditions that are alike have the same text
+alike-text : {w w′ : List ℕ} {c c′ n n′ : ℕ} → Printed w c n → Printed w′ c′ n′ → Alike w n w′ n′ → textOf w n ≡ textOf w′ n′
+alike-text {n = n} {n′ = n′} p p′ a = text-same (p .standard) (p′ .standard) n n′ (p .below) (p′ .below) a
+
+pub check-lines : CheckLines
+unfolding CheckLines checkLine
+check-lines w w′ c c′ n n′ p p′ =
+    (λ e. same-text w w′ n n′ (text-first w w′ n n′ (10 ∷ []) (10 ∷ []) (after checkWord e) .0), λ a. rw (alike-text p p′ a))
+
+-- how an assert line begins tells entered from kept, and what follows
+assert-first : (e e′ : Bool) (r s : List ℕ) → assertWord e ++ r ≡ assertWord e′ ++ s → (e ≡ e′) × (r ≡ s)
+unfolding assertWord
+assert-first true true r s p = (refl, after (assertWord true) p)
+assert-first false false r s p = (refl, after (assertWord false) p)
+assert-first true false r s p = absurd (omega (arith, heads (tails (tails (tails (tails (tails (tails (tails p)))))))))
+assert-first false true r s p = absurd (omega (arith, heads (tails (tails (tails (tails (tails (tails (tails p)))))))))
+
+pub assert-lines : AssertLines
+unfolding AssertLines assertLine
+assert-lines w w′ c c′ n n′ e e′ p p′ = (tell, λ a. rw (a .0, alike-text p p′ (a .1)))
+  where
+    tell : (assertWord e ++ textOf w n) ++ 10 ∷ [] ≡ (assertWord e′ ++ textOf w′ n′) ++ 10 ∷ [] → (e ≡ e′) × Alike w n w′ n′
+    tell q =
+        let t = assert-first e e′ (textOf w n ++ 10 ∷ []) (textOf w′ n′ ++ 10 ∷ []) (rw (append-assoc, append-assoc) at q) in
+        (t .0, same-text w w′ n n′ (text-first w w′ n n′ (10 ∷ []) (10 ∷ []) (t .1) .0))
+
+-- the halves of n + 1 bits: those of n bits, and two more
+halves-more : (P : ℕ → Type 0) (n : ℕ) → ((i : ℕ) → i < 2 * n → P i) → P (2 * n) → P (2 * n + 1) → (i : ℕ) → i < 2 * suc n → P i
+halves-more P n f h l i b = go (ltb i (2 * n)) (eqb i (2 * n)) refl refl
+  where
+    go : (x y : Bool) → ltb i (2 * n) ≡ x → eqb i (2 * n) ≡ y → P i
+    go true y p q = f i (ltb-true i (2 * n) p)
+    go false true p q = subst P (sym (eqb-true i (2 * n) q)) h
+    go false false p q =
+        let u = ltb-false i (2 * n) p in
+        let v = eqb-false i (2 * n) q in
+        let d : i ≡ 2 * n + 1 = omega (arith, u, v) in
+        subst P (sym d) l
+
+module _ (w w′ word word′ : List ℕ) where
+  -- half i has the same text in both
+  abbrev Same : ℕ → Type 0
+  Same i = textOf w (getD word i 0) ≡ textOf w′ (getD word′ i 0)
+
+  -- the bits up to the newline tell how many they are, and each half's text
+  bits-tell : (n n′ : ℕ) → bitsText w word n ++ 10 ∷ [] ≡ bitsText w′ word′ n′ ++ 10 ∷ [] → (n ≡ n′) × ((i : ℕ) → i < 2 * n → Same i)
+  unfolding bitsText bitText
+  bits-tell zero zero e = (refl, λ i b. absurd (omega arith))
+  bits-tell zero (suc n′) e = absurd (omega (arith, heads e))
+  bits-tell (suc n) zero e = absurd (omega (arith, heads e))
+  bits-tell (suc n) (suc n′) e =
+      let h = text-first w w′ (getD word (2 * n) 0) (getD word′ (2 * n′) 0) _ _ (tails (simp append-assoc at e)) in
+      let l = text-first w w′ (getD word (2 * n + 1) 0) (getD word′ (2 * n′ + 1) 0) _ _ (tails (h .1)) in
+      let t = bits-tell n n′ (l .1) in
+      (ap suc (t .0), halves-more Same n (t .1) (rw (← t .0) at (h .0)) (rw (← t .0) at (l .0)))
+
+  bit-same : (h h′ l l′ : ℕ) → textOf w h ≡ textOf w′ h′ → textOf w l ≡ textOf w′ l′ → bitText w h l ≡ bitText w′ h′ l′
+  unfolding bitText
+  bit-same h h′ l l′ eh el = cc
+
+  bits-same : (n : ℕ) → ((i : ℕ) → i < 2 * n → Same i) → bitsText w word n ≡ bitsText w′ word′ n
+  unfolding bitsText
+  bits-same zero f = refl
+  bits-same (suc n) f =
+      let b = bit-same (getD word (2 * n) 0) (getD word′ (2 * n) 0) (getD word (2 * n + 1) 0) (getD word′ (2 * n + 1) 0) (f (2 * n) (omega arith)) (f (2 * n + 1) (omega arith)) in
+      rw (b, bits-same n (λ i b. f i (omega arith)))
+
+pub read-lines : ReadLines
+unfolding ReadLines readLine
+read-lines w w′ c c′ k k′ word word′ p p′ = (tell, same)
+  where
+    bits : {x y : ℕ} → x ≡ 2 * y → x / 2 ≡ y
+    bits e = omega arith
+
+    tell : readWord ++ bitsText w word (length word / 2) ++ 10 ∷ [] ≡ readWord ++ bitsText w′ word′ (length word′ / 2) ++ 10 ∷ []
+        → (k ≡ k′) × ((i : ℕ) → i < 2 * k → Alike w (getD word i 0) w′ (getD word′ i 0))
+    tell e =
+        let t = bits-tell w w′ word word′ k k′ (rw (bits (p .size), bits (p′ .size)) at (after readWord e)) in
+        (t .0, λ i b. same-text w w′ (getD word i 0) (getD word′ i 0) (t .1 i b))
+
+    halves : k ≡ k′ → ((i : ℕ) → i < 2 * k → Alike w (getD word i 0) w′ (getD word′ i 0)) → (i : ℕ) → i < 2 * k → Same w w′ word word′ i
+    halves e f i b = text-same (p .standard) (p′ .standard) (getD word i 0) (getD word′ i 0) (p .below i b) (p′ .below i (rw e at b)) (f i b)
+
+    same : (k ≡ k′) × ((i : ℕ) → i < 2 * k → Alike w (getD word i 0) w′ (getD word′ i 0))
+        → readWord ++ bitsText w word (length word / 2) ++ 10 ∷ [] ≡ readWord ++ bitsText w′ word′ (length word′ / 2) ++ 10 ∷ []
+    same a = rw (bits (p .size), bits (p′ .size), ← a .0, bits-same w w′ word word′ k (halves (a .0) (a .1)))

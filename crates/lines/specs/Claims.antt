@@ -1,0 +1,38 @@
+-- Demand 2: "the text of a condition is the same for two conditions exactly when they agree under every assignment". Here of the lines in which
+-- conditions are printed; the two lines may be of two cases, each with a store of its own.
+use mathlib.Core.Path.{_≡_}
+use mathlib.Core.Logic.{_↔_}
+use mathlib.Core.Bool.{Bool}
+use mathlib.Core.List.{List}
+use Prim.Native.Nat.{ℕ, _*_, _<_}
+use lib.ListN.{length, getD}
+use Rattle.nodes.specs.Standard.{Standard}
+use Rattle.conditions.specs.Show.{Alike}
+use Rattle.lines.specs.Lines.{checkLine, assertLine, readLine}
+
+-- a store in standard form with c nodes, and a node of it
+pub record Printed (w : List ℕ) (c n : ℕ) : Type 0 where
+  pub standard : Standard w c
+  pub below : n < c
+
+-- and a word of k bits, each of whose halves is a node of it
+pub record PrintedWord (w : List ℕ) (c : ℕ) (word : List ℕ) (k : ℕ) : Type 0 where
+  pub standard : Standard w c
+  pub size : length word ≡ 2 * k
+  pub below : (i : ℕ) → i < 2 * k → getD word i 0 < c
+
+-- two check lines
+unfoldable pub CheckLines : Type 0
+CheckLines = (w w′ : List ℕ) (c c′ n n′ : ℕ) → Printed w c n → Printed w′ c′ n′ → (checkLine w n ≡ checkLine w′ n′) ↔ Alike w n w′ n′
+
+-- two assert lines: both entered or both kept, too
+unfoldable pub AssertLines : Type 0
+AssertLines =
+    (w w′ : List ℕ) (c c′ n n′ : ℕ) (e e′ : Bool) → Printed w c n → Printed w′ c′ n′
+    → (assertLine w e n ≡ assertLine w′ e′ n′) ↔ ((e ≡ e′) × Alike w n w′ n′)
+
+-- two read lines: as many bits, and each half alike
+unfoldable pub ReadLines : Type 0
+ReadLines =
+    (w w′ : List ℕ) (c c′ k k′ : ℕ) (word word′ : List ℕ) → PrintedWord w c word k → PrintedWord w′ c′ word′ k′
+    → (readLine w word ≡ readLine w′ word′) ↔ ((k ≡ k′) × ((i : ℕ) → i < 2 * k → Alike w (getD word i 0) w′ (getD word′ i 0)))
