@@ -53,7 +53,7 @@ loop-again : tie.Need-loop-again Inv-loop μ-loop
 loop-again c =
     let a = c .before .before .before .before .before .before .before .before .before .before .before .args in
     let x = c .before .before .before .before .before .before .before .loop in
-    (search needs, search needs, bits-next (now (a .words)) (now (a .word)) (x .i) (out (x .buf) (x .t)) (c .before .before .before .before .before .before .loop-test .taken) (c .before .before .put-bit .ensures) ∙ x .inv .2)
+    (search needs, search needs, bits-next (now (a .words)) (now (a .word)) (x .i) (out (x .buf) (x .t)) (omega (arith, c .before .before .before .before .before .before .loop-test .taken)) (c .before .before .put-bit .ensures) ∙ x .inv .2)
 
 same-length : tie.Need-same-length Inv-loop μ-loop
 same-length c = search needs
@@ -62,7 +62,7 @@ returns : tie.Need-returns Inv-loop μ-loop
 returns c =
     let a = c .before .before .before .before .before .args in
     let x = c .before .loop in
-    sym (bits-done (now (a .words)) (now (a .word)) (x .i) (out (x .buf) (x .t)) (c .loop-test .left)) ∙ x .inv .2
+    sym (bits-done (now (a .words)) (now (a .word)) (x .i) (out (x .buf) (x .t)) (omega (arith, c .loop-test .left))) ∙ x .inv .2
 
 pub put-bits-spec : {M : Type 1} → statement M
 put-bits-spec =
