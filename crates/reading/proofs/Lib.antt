@@ -1,0 +1,4 @@
+pub mod BytesLaws
+pub mod KindLaws
+pub mod AccessLaws
+pub mod SectionLaws

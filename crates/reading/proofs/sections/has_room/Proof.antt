@@ -1,0 +1,20 @@
+use denote.Ref.{now}
+use Rattle.reading.proofs.SectionLaws.{room-is}
+use borrow.Author.Needs.{needs}
+use Rattle.reading.proofs.sections.has_room.Statement.{statement}
+use Rattle.reading.proofs.sections.has_room.Tie as tie
+use Rattle.reading.proofs.sections.has_room.Reads as reads
+use Rattle.reading.proofs.sections.has_room.Lts as lts
+use Rattle.nodes.proofs.capacity.Reads as capacity-reads
+
+add-result : tie.Need-add-result
+add-result c = search needs
+
+capacity-requires : tie.Need-capacity-requires
+capacity-requires c κs = search needs
+
+returns : tie.Need-returns
+returns c = room-is (now (c .before .before .args .words)) (c .before .before .args .k) (c .capacity .ensures)
+
+pub has-room-spec : {M : Type 1} → statement M
+has-room-spec = tie.close (tie.spec add-result capacity-requires returns)

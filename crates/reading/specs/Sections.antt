@@ -1,0 +1,73 @@
+-- 01, 'Case file': the sections before the accesses. "n and w (a byte each); 2-byte count of nodes from 2 up, each variable (1 byte), low, high (2 bytes each); 2-byte count of accesses."
+use mathlib.Core.List.{List, [], _∷_, _++_}
+use Prim.Native.Nat.{ℕ, zero, suc, _+_, _*_}
+use lib.Dec.{leb}
+use lib.ListN.{length, getD}
+use Rattle.nodes.specs.Words.{withNode, withTerminals}
+use Rattle.nodes.specs.Standard.{counted}
+use Rattle.model.specs.Record.{Record}
+use Rattle.model.specs.Rows.{Row, firstRow, row1, row2}
+use Rattle.model.specs.Step.{freshRecord, counted as withCount}
+use Rattle.reading.specs.declared.Loaded.{Loaded}
+use Rattle.reading.specs.declared.Loaded.the-variants as loaded
+use Rattle.reading.specs.Bytes.{numberAt}
+
+-- the words with the k nodes from a place of the file on stored from node 2 up
+unfoldable pub withNodes : List ℕ → ℕ → ℕ → List ℕ → List ℕ
+withNodes file at zero words = words
+withNodes file at (suc k) words =
+    let from = at + 5 * k in
+    withNode (withNodes file at k words) (2 + k) (getD file from 0) (numberAt file (from + 1)) (numberAt file (from + 3))
+
+-- n, w, the node count, the count of accesses and the byte where they begin; or a refusal's number
+pub data Sections : Type 0 where
+  ready : ℕ → ℕ → ℕ → ℕ → ℕ → Sections
+  refused : ℕ → Sections
+
+abbrev pub sectionsOf : Loaded → Sections
+sectionsOf (loaded.Ready n w count accesses at) = ready n w count accesses at
+sectionsOf (loaded.Refused k) = refused k
+
+-- the record with which a case begins: that of Fresh, and the node count
+abbrev pub firstRecord : ℕ → ℕ → ℕ → Record
+firstRecord n w count = withCount (freshRecord n w) count
+
+abbrev pub sectionsUnless : ℕ → Sections → Sections
+sectionsUnless zero x = x
+sectionsUnless (suc k) x = refused (suc k)
+
+abbrev pub wordsUnless : ℕ → List ℕ → List ℕ → List ℕ
+wordsUnless zero x words = x
+wordsUnless (suc k) x words = words
+
+module _ (file words : List ℕ) where
+  -- how many nodes the file has
+  abbrev pub nodesIn : ℕ
+  nodesIn = numberAt file 2
+
+  abbrev pub stored : List ℕ
+  stored = withNodes file 4 nodesIn (withTerminals words)
+
+  abbrev pub recordIn : Record
+  recordIn = firstRecord (getD file 0 0) (getD file 1 0) (nodesIn + 2)
+
+  -- "missing bytes of a section .., then its content (a store below 6 words counts with the nodes)": up to the place where the nodes are stored,
+  abbrev pub earlyRows : List Row
+  earlyRows =
+      (10, leb 2 (length file))
+      ∷ (1, row1 recordIn words)
+      ∷ (10, leb 4 (length file))
+      ∷ (10, leb (4 + 5 * nodesIn) (length file))
+      ∷ (2, counted words (nodesIn + 2))
+      ∷ []
+
+  -- and from there on
+  abbrev pub lateRows : List Row
+  lateRows = (2, row2 recordIn stored) ∷ (10, leb (6 + 5 * nodesIn) (length file)) ∷ []
+
+  -- the node words and the answer
+  unfoldable pub sections : List ℕ × Sections
+  sections = (
+    wordsUnless (firstRow earlyRows) stored words,
+    sectionsUnless (firstRow (earlyRows ++ lateRows)) (ready (getD file 0 0) (getD file 1 0) (nodesIn + 2) (numberAt file (4 + 5 * nodesIn)) (6 + 5 * nodesIn)),
+  )

@@ -1,0 +1,43 @@
+// What is read of a case file, from its bytes: numbers, the sections before the accesses, and each access in its place. No access is done here.
+mod accesses;
+mod bytes;
+mod kinds;
+mod sections;
+
+pub use accesses::access_at;
+pub use bytes::number_at;
+pub use bytes::read_numbers;
+pub use kinds::kind_of;
+pub use kinds::operands;
+pub use sections::load_sections;
+
+// What the kind byte of an access selects.
+pub enum Kind {
+    Write,
+    Read,
+    Assert,
+    Check,
+    Unknown,
+}
+
+// An access in the file: its kind, the byte where its nodes begin, and the byte after it.
+pub enum Access {
+    Here {
+        kind: Kind,
+        from: usize,
+        next: usize,
+    },
+    Refused(u32),
+}
+
+// What the sections hold: n, w, the node count, the count of accesses and the byte where they begin.
+pub enum Loaded {
+    Ready {
+        n: u32,
+        w: u32,
+        count: u32,
+        accesses: u32,
+        at: usize,
+    },
+    Refused(u32),
+}
