@@ -1,25 +1,26 @@
--- An access that is found lies in the file.
-use mathlib.Core.Path.{_≡_, refl, sym, ap, _∙_}
+-- The access at a place test by test; one that is found lies in the file.
+use mathlib.Core.Path.{_≡_, refl, ap, _∙_}
 use mathlib.Core.Bool.{Bool, true, false, not}
+use mathlib.Core.Logic.{_⊎_, inl, inr}
 use mathlib.Core.List.{List}
 use Prim.Native.Nat.{ℕ, zero, suc, _+_, _*_, _-_, _<_, _≤_}
 use native.Mathlib.Omega.{arith}
-use lib.Dec.{ltb, leb}
-use lib.ListN.{length, getD}
+use lib.ListN.{length}
 use borrow.Author.Tests.{lt-ltb, le-ltb, lt-leb, le-leb, leb-true}
 use Rattle.nodes.proofs.TestLaws.{test-fails, test-holds}
 use Rattle.model.specs.Rows.{firstRow}
 use Rattle.model.proofs.RowLaws.{rows-hold}
 use Rattle.reading.specs.declared.Kind.{Kind}
-use Rattle.reading.specs.Kinds.{kindOf, isKnown, sizeOf}
-use Rattle.reading.specs.Accesses.{Found, found, refused, accessRows, foundUnless, accessAt}
+use Rattle.reading.specs.Kinds.{isKnown, sizeOf}
+use Rattle.reading.specs.Accesses.{found, refused, kindAt, endOf, accessRows, foundUnless, accessAt}
+use Rattle.reading.proofs.RowLaws.{rows-number}
 
 -- what is known of an access found at a place
 pub record Lies (file : List ℕ) (at n w : ℕ) (kind : Kind) (from next : ℕ) : Type 0 where
-  pub is : kind ≡ kindOf (getD file at 0)
+  pub kind-is : kind ≡ kindAt file at
   pub known : isKnown kind ≡ true
-  pub begin : from ≡ at + 1
-  pub end : next ≡ from + 2 * sizeOf kind n w
+  pub from-is : from ≡ at + 1
+  pub next-is : next ≡ from + 2 * sizeOf kind n w
   pub inside : next ≤ length file
   pub after : at < next
 
@@ -29,7 +30,7 @@ module _ (file : List ℕ) (at n w : ℕ) where
   unfolding accessAt
   no-kind h = rw (le-ltb at (length file) h)
 
-  module _ (h : at < length file) {k : Kind} (e : k ≡ kindOf (getD file at 0)) {b : Bool} (f : b ≡ isKnown k) where
+  module _ (h : at < length file) {k : Kind} (e : k ≡ kindAt file at) {b : Bool} (f : b ≡ isKnown k) where
     pub kind-unknown : not b ≡ true → refused 11 ≡ accessAt file at n w
     unfolding accessAt
     kind-unknown u = rw (lt-ltb at (length file) h, ← e, test-fails f u)
@@ -43,26 +44,37 @@ module _ (file : List ℕ) (at n w : ℕ) where
       unfolding accessAt
       stands l = rw (lt-ltb at (length file) h, ← e, test-holds f u, ← g, le-leb (at + 1 + 2 * s) (length file) (omega arith))
 
-  pub lies : {kind : Kind} {from next : ℕ} → accessAt file at n w ≡ found kind from next → Lies file at n w kind from next
+  pub access-lies : {kind : Kind} {from next : ℕ} → found kind from next ≡ accessAt file at n w → Lies file at n w kind from next
   unfolding accessAt
-  lies {kind} {from} {next} e = go (firstRow (accessRows file at n w)) refl e
+  access-lies {kind} {from} {next} e = go (firstRow (accessRows file at n w)) refl e
     where
       k : Kind
-      k = kindOf (getD file at 0)
+      k = kindAt file at
 
-      go : (r : ℕ) → firstRow (accessRows file at n w) ≡ r → foundUnless r (found k (at + 1) (at + 1 + 2 * sizeOf k n w)) ≡ found kind from next → Lies file at n w kind from next
+      go : (r : ℕ) → firstRow (accessRows file at n w) ≡ r → found kind from next ≡ foundUnless r (found k (at + 1) (endOf file at n w)) → Lies file at n w kind from next
       go zero q e =
           let Q = rows-hold (accessRows file at n w) refl q in
-          let i : k ≡ kind = cc in
-          let f : at + 1 ≡ from = cc in
-          let g : at + 1 + 2 * sizeOf k n w ≡ next = cc in
-          let z : sizeOf k n w ≡ sizeOf kind n w = ap (λ (x : Kind). sizeOf x n w) i in
+          let i : kind ≡ k = cc in
+          let f : from ≡ at + 1 = cc in
+          let g : next ≡ endOf file at n w = cc in
+          let z : sizeOf kind n w ≡ sizeOf k n w = ap (λ (x : Kind). sizeOf x n w) i in
           record {
-            is = sym i;
-            known = ap isKnown (sym i) ∙ Q .1 .0;
-            begin = sym f;
-            end = omega arith;
-            inside = omega (arith, leb-true (at + 1 + 2 * sizeOf k n w) (length file) (Q .1 .1 .0));
+            kind-is = i;
+            known = ap isKnown i ∙ Q .1 .0;
+            from-is = f;
+            next-is = omega arith;
+            inside = omega (arith, leb-true (endOf file at n w) (length file) (Q .1 .1 .0));
             after = omega arith;
           }
       go (suc r) q e = let z : _≡_ {A = ℕ} 0 1 = cc in absurd (omega arith)
+
+  -- the rows that can refuse one
+  pub access-refusal : {k : ℕ} → refused k ≡ accessAt file at n w → (k ≡ 10) ⊎ (k ≡ 11)
+  unfolding accessAt
+  access-refusal {k} e = go (firstRow (accessRows file at n w)) refl e
+    where
+      go : (r : ℕ) → firstRow (accessRows file at n w) ≡ r → refused k ≡ foundUnless r (found (kindAt file at) (at + 1) (endOf file at n w)) → (k ≡ 10) ⊎ (k ≡ 11)
+      go zero q e = let z : _≡_ {A = ℕ} 0 1 = cc in absurd (omega arith)
+      go (suc r) q e =
+          let g : k ≡ suc r = cc in
+          rw g (rows-number (λ (i : ℕ). (i ≡ 10) ⊎ (i ≡ 11)) (accessRows file at n w) (inl refl, (inr refl, (inl refl, tt))) q)

@@ -1,47 +1,31 @@
 -- The sections test by test, and what those that are read leave.
 use mathlib.Core.Path.{_≡_, refl, sym, ap, _∙_}
-use mathlib.Core.Bool.{Bool, true, false, cond, not, _&&_, and-true, false≢true}
-use mathlib.Core.List.{List, [], _∷_, _++_}
+use mathlib.Core.Bool.{Bool, true, false, not, _&&_, and-true}
+use mathlib.Core.Logic.{_⊎_, inl, inr}
+use mathlib.Core.List.{List, [], _++_}
 use Prim.Native.Nat.{ℕ, zero, suc, _+_, _*_, _-_, _<_, _≤_}
 use native.Mathlib.Numerals.{add-one}
 use native.Mathlib.Omega.{arith}
-use lib.Dec.{ltb, leb}
+use lib.Dec.{leb}
 use lib.ListN.{length, getD}
 use borrow.Author.Tests.{lt-leb, le-leb, leb-true}
-use Rattle.nodes.specs.Words.{withNode, withTerminals, capacityOf, varAt}
+use Rattle.nodes.specs.Words.{withNode, withTerminals, capacityOf}
 use Rattle.nodes.specs.Standard.{counted, isStandard, Standard}
 use Rattle.nodes.proofs.BoolLaws.{and-both}
 use Rattle.nodes.proofs.TestLaws.{test-fails, test-holds}
 use Rattle.nodes.proofs.WordsLaws.{node-length, node-other}
-use Rattle.nodes.proofs.StandardLaws.{Counted, counted-is}
+use Rattle.nodes.proofs.StandardLaws.{counted-is}
 use Rattle.conditions.proofs.Promises.{standard-is, is-standard, is-user}
-use Rattle.model.specs.Record.{Record, listCapacity}
-use Rattle.model.specs.Rows.{Row, firstRow, row1, row3}
+use Rattle.model.specs.Record.{Record}
+use Rattle.model.specs.Rows.{firstRow, row1}
 use Rattle.model.specs.Step.{State}
 use Rattle.model.specs.Claims.{Begins}
 use Rattle.model.specs.Frames.{Valid}
-use Rattle.model.proofs.RowLaws.{numbered, rows-hold}
+use Rattle.model.proofs.RowLaws.{rows-hold}
 use Rattle.model.proofs.ThirdLaws.{is-third}
 use Rattle.reading.specs.Bytes.{numberAt}
 use Rattle.reading.specs.Sections.{withNodes, Sections, ready, refused, firstRecord, sectionsUnless, wordsUnless, nodesIn, stored, recordIn, earlyRows, lateRows, sections}
-
--- a row that refuses does so whatever rows come after it
-rows-refuse : (ts us : List Row) {k : ℕ} → firstRow ts ≡ suc k → firstRow (ts ++ us) ≡ suc k
-rows-refuse [] us e = absurd (omega arith)
-rows-refuse (t ∷ ts) us {k} e = go (t .1) e (rows-refuse ts us)
-  where
-    go : (b : Bool) → cond b (firstRow ts) (t .0) ≡ suc k → (firstRow ts ≡ suc k → firstRow (ts ++ us) ≡ suc k) → cond b (firstRow (ts ++ us)) (t .0) ≡ suc k
-    go true e f = f e
-    go false e f = e
-
--- where none refuses, those after it decide
-rows-pass : (ts us : List Row) → numbered ts ≡ true → firstRow ts ≡ 0 → firstRow (ts ++ us) ≡ firstRow us
-rows-pass [] us q e = refl
-rows-pass (t ∷ ts) us q e = go (t .1) (rows-hold (t ∷ ts) q e .0) e (rows-pass ts us (and-both (ltb 0 (t .0)) (numbered ts) q .1))
-  where
-    go : (b : Bool) → b ≡ true → cond b (firstRow ts) (t .0) ≡ 0 → (firstRow ts ≡ 0 → firstRow (ts ++ us) ≡ firstRow us) → cond b (firstRow (ts ++ us)) (t .0) ≡ firstRow us
-    go true z e f = f e
-    go false z e f = absurd (false≢true z)
+use Rattle.reading.proofs.RowLaws.{rows-refuse, rows-pass, rows-number}
 
 -- of row 2's tests of the count, what is left for a count from 2 up
 pub room-is : (words : List ℕ) (k : ℕ) {c : ℕ} → c ≡ capacityOf words → (leb 6 (length words) && leb (k + 2) c) ≡ counted words (k + 2)
@@ -71,11 +55,11 @@ module _ (file : List ℕ) (at : ℕ) (words : List ℕ) where
 
 -- what is known where the nodes are stored
 pub record Early (file words : List ℕ) : Type 0 where
-  pub range : row1 (recordIn file words) words ≡ true
-  pub bytes : 4 + 5 * nodesIn file words ≤ length file
+  pub range : row1 (recordIn file) words ≡ true
+  pub bytes : 4 + 5 * nodesIn file ≤ length file
   pub six : 6 ≤ length words
-  pub room : (nodesIn file words + 2) * 3 ≤ length words
-  pub few : nodesIn file words + 2 ≤ 16384
+  pub room : (nodesIn file + 2) * 3 ≤ length words
+  pub few : nodesIn file + 2 ≤ 16384
 
 module _ (file words : List ℕ) where
   -- the rows before that, one after the other, each with what those before it found
@@ -83,7 +67,7 @@ module _ (file words : List ℕ) where
   no-head h = rw (lt-leb 2 (length file) h)
 
   module _ (h : 2 ≤ length file) {n w : ℕ} (en : n ≡ getD file 0 0) (ew : w ≡ getD file 1 0) {b : Bool} (e : b ≡ row1 (firstRecord n w 2) []) where
-    range-same : b ≡ row1 (recordIn file words) words
+    range-same : b ≡ row1 (recordIn file) words
     unfolding row1
     range-same = rw (← en, ← ew) e
 
@@ -108,10 +92,10 @@ module _ (file words : List ℕ) where
   pub early-is : firstRow (earlyRows file words) ≡ 0 → Early file words
   early-is e =
       let H = rows-hold (earlyRows file words) refl e in
-      let C = counted-is words (nodesIn file words + 2) (H .1 .1 .1 .1 .0) in
+      let C = counted-is words (nodesIn file + 2) (H .1 .1 .1 .1 .0) in
       record {
         range = H .1 .0;
-        bytes = leb-true (4 + 5 * nodesIn file words) (length file) (H .1 .1 .1 .0);
+        bytes = leb-true (4 + 5 * nodesIn file) (length file) (H .1 .1 .1 .0);
         six = C .six;
         room = omega (arith, C .most);
         few = omega (arith, C .most);
@@ -127,7 +111,7 @@ module _ (file words : List ℕ) where
     stored-is : ws ≡ stored file words
     stored-is = rw (← es, ← ek) ews
 
-    form-same : b ≡ isStandard (stored file words) (nodesIn file words + 2)
+    form-same : b ≡ isStandard (stored file words) (nodesIn file + 2)
     form-same = rw (← stored-is, ← ek) eb
 
     pub not-standard : not b ≡ true → (ws, refused 2) ≡ sections file words
@@ -143,16 +127,15 @@ module _ (file words : List ℕ) where
           → (ws, ready n w (k + 2) m (4 + 5 * k + 2)) ≡ sections file words
       unfolding sections
       all-read l en ew em =
-          let a : 4 + 5 * k + 2 ≡ 6 + 5 * k = omega arith in
-          rw (o, rows-pass (earlyRows file words) (lateRows file words) refl o, test-holds form-same u, ← stored-is, ← ek, le-leb (6 + 5 * k) (length file) (omega arith), en, ew, em, a)
+          rw (o, rows-pass (earlyRows file words) (lateRows file words) refl o, test-holds form-same u, ← stored-is, ← ek, le-leb (6 + 5 * k) (length file) (omega arith), en, ew, em)
 
 -- what is known of sections that are read
-pub record Read (file words ws : List ℕ) (n w count accesses at : ℕ) : Type 0 where
+pub record SectionsRead (file words ws : List ℕ) (n w count accesses at : ℕ) : Type 0 where
   pub n-is : n ≡ getD file 0 0
   pub w-is : w ≡ getD file 1 0
-  pub count-is : count ≡ numberAt file 2 + 2
-  pub accesses-is : accesses ≡ numberAt file (4 + 5 * numberAt file 2)
-  pub at-is : at ≡ 6 + 5 * numberAt file 2
+  pub count-is : count ≡ nodesIn file + 2
+  pub accesses-is : accesses ≡ numberAt file (4 + 5 * nodesIn file)
+  pub at-is : at ≡ 4 + 5 * nodesIn file + 2
   pub words-are : ws ≡ stored file words
   pub range : row1 (firstRecord n w count) ws ≡ true
   pub few : (1 ≤ n) × (n ≤ 8)
@@ -175,22 +158,22 @@ unfolding row1
 range-words r ws us e = e
 
 -- the words after the nodes stay, and their number
-stored-past : (file words : List ℕ) (j : ℕ) → (nodesIn file words + 2) * 3 ≤ j → getD (stored file words) j 0 ≡ getD words j 0
+stored-past : (file words : List ℕ) (j : ℕ) → (nodesIn file + 2) * 3 ≤ j → getD (stored file words) j 0 ≡ getD words j 0
 stored-past file words j h =
-    nodes-past file 4 (withTerminals words) (nodesIn file words) j (omega arith)
+    nodes-past file 4 (withTerminals words) (nodesIn file) j (omega arith)
     ∙ node-other (withNode words 0 64 0 0) 1 64 1 1 j (omega arith) (omega arith) (omega arith)
     ∙ node-other words 0 64 0 0 j (omega arith) (omega arith) (omega arith)
 
 stored-length : (file words : List ℕ) → length (stored file words) ≡ length words
-stored-length file words = nodes-length file 4 (withTerminals words) (nodesIn file words) ∙ node-length (withNode words 0 64 0 0) 1 64 1 1 ∙ node-length words 0 64 0 0
+stored-length file words = nodes-length file 4 (withTerminals words) (nodesIn file) ∙ node-length (withNode words 0 64 0 0) 1 64 1 1 ∙ node-length words 0 64 0 0
 
 -- sections that no row refuses
 rows-read : (file words : List ℕ) → firstRow (earlyRows file words ++ lateRows file words) ≡ 0
-    → (firstRow (earlyRows file words) ≡ 0) × Read file words (stored file words) (getD file 0 0) (getD file 1 0) (nodesIn file words + 2) (numberAt file (4 + 5 * nodesIn file words)) (6 + 5 * nodesIn file words)
+    → (firstRow (earlyRows file words) ≡ 0) × SectionsRead file words (stored file words) (getD file 0 0) (getD file 1 0) (nodesIn file + 2) (numberAt file (4 + 5 * nodesIn file)) (4 + 5 * nodesIn file + 2)
 rows-read file words q =
     let Q = rows-hold (earlyRows file words ++ lateRows file words) refl q in
-    let one = range-words (recordIn file words) words (stored file words) (Q .1 .0) in
-    let R = range-is (getD file 0 0) (getD file 1 0) (nodesIn file words + 2) (stored file words) one in (
+    let one = range-words (recordIn file) words (stored file words) (Q .1 .0) in
+    let R = range-is (getD file 0 0) (getD file 1 0) (nodesIn file + 2) (stored file words) one in (
       rw (Q .0, Q .1 .0, Q .1 .1 .0, Q .1 .1 .1 .0, Q .1 .1 .1 .1 .0),
       record {
         n-is = refl;
@@ -202,37 +185,37 @@ rows-read file words q =
         range = one;
         few = R .0;
         wide = R .1;
-        standard = standard-is (stored file words) (nodesIn file words + 2) (Q .1 .1 .1 .1 .1 .0);
-        inside = leb-true (6 + 5 * nodesIn file words) (length file) (Q .1 .1 .1 .1 .1 .1 .0);
+        standard = standard-is (stored file words) (nodesIn file + 2) (Q .1 .1 .1 .1 .1 .0);
+        inside = omega (arith, leb-true (6 + 5 * nodesIn file) (length file) (Q .1 .1 .1 .1 .1 .1 .0));
         len = stored-length file words;
         past = stored-past file words;
       },
     )
 
-pub sections-read : (file words : List ℕ) {ws : List ℕ} {n w count accesses at : ℕ} → (ws, ready n w count accesses at) ≡ sections file words → Read file words ws n w count accesses at
+pub sections-read : (file words : List ℕ) {ws : List ℕ} {n w count accesses at : ℕ} → (ws, ready n w count accesses at) ≡ sections file words → SectionsRead file words ws n w count accesses at
 unfolding sections
 sections-read file words {ws} {n} {w} {count} {accesses} {at} e = go (firstRow (earlyRows file words ++ lateRows file words)) refl (ap (λ (x : List ℕ × Sections). x .1) e) (ap (λ (x : List ℕ × Sections). x .0) e)
   where
     k : ℕ
-    k = nodesIn file words
+    k = nodesIn file
 
     go : (r : ℕ) → firstRow (earlyRows file words ++ lateRows file words) ≡ r
-        → ready n w count accesses at ≡ sectionsUnless r (ready (getD file 0 0) (getD file 1 0) (k + 2) (numberAt file (4 + 5 * k)) (6 + 5 * k))
+        → ready n w count accesses at ≡ sectionsUnless r (ready (getD file 0 0) (getD file 1 0) (k + 2) (numberAt file (4 + 5 * k)) (4 + 5 * k + 2))
         → ws ≡ wordsUnless (firstRow (earlyRows file words)) (stored file words) words
-        → Read file words ws n w count accesses at
+        → SectionsRead file words ws n w count accesses at
     go zero q f g =
         let R = rows-read file words q in
         let en : n ≡ getD file 0 0 = cc in
         let ew : w ≡ getD file 1 0 = cc in
         let ec : count ≡ k + 2 = cc in
         let em : accesses ≡ numberAt file (4 + 5 * k) = cc in
-        let ea : at ≡ 6 + 5 * k = cc in
+        let ea : at ≡ 4 + 5 * k + 2 = cc in
         let es : ws ≡ stored file words = g ∙ ap (λ (r : ℕ). wordsUnless r (stored file words) words) (R .0) in
         rw (en, ew, ec, em, ea, es) (R .1)
     go (suc r) q f g = let z : _≡_ {A = ℕ} 0 1 = cc in absurd (omega arith)
 
 -- a case begins in a state in which rows 1 to 3 refuse nothing, and from which demand 3 is claimed
-module _ {file words ws : List ℕ} {n w count accesses at : ℕ} (R : Read file words ws n w count accesses at) (list : List ℕ) where
+module _ {file words ws : List ℕ} {n w count accesses at : ℕ} (R : SectionsRead file words ws n w count accesses at) (list : List ℕ) where
   abbrev pub firstState : State
   firstState = record { rec = firstRecord n w count; words = ws; list = list }
 
@@ -248,3 +231,16 @@ module _ {file words ws : List ℕ} {n w count accesses at : ℕ} (R : Read file
         two = is-standard ws count S;
         three = is-third firstState (record { fits = omega arith; words = λ k h. absurd (omega arith); asserted = u; checked = u });
       }
+
+-- the rows that can refuse them
+pub sections-refusal : (file words : List ℕ) {ws : List ℕ} {k : ℕ} → (ws, refused k) ≡ sections file words → (k ≡ 10) ⊎ (k ≡ 1) ⊎ (k ≡ 2)
+unfolding sections
+sections-refusal file words {ws} {k} e = go (firstRow (earlyRows file words ++ lateRows file words)) refl (ap (λ (x : List ℕ × Sections). x .1) e)
+  where
+    go : (r : ℕ) → firstRow (earlyRows file words ++ lateRows file words) ≡ r
+        → refused k ≡ sectionsUnless r (ready (getD file 0 0) (getD file 1 0) (nodesIn file + 2) (numberAt file (4 + 5 * nodesIn file)) (4 + 5 * nodesIn file + 2))
+        → (k ≡ 10) ⊎ (k ≡ 1) ⊎ (k ≡ 2)
+    go zero q f = let z : _≡_ {A = ℕ} 0 1 = cc in absurd (omega arith)
+    go (suc r) q f =
+        let g : k ≡ suc r = cc in
+        rw g (rows-number (λ (i : ℕ). (i ≡ 10) ⊎ (i ≡ 1) ⊎ (i ≡ 2)) (earlyRows file words ++ lateRows file words) (inl refl, (inr (inl refl), (inl refl, (inl refl, (inr (inr refl), (inr (inr refl), (inl refl, tt))))))) q)

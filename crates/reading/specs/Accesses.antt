@@ -9,29 +9,37 @@ use Rattle.reading.specs.declared.Access.{Access}
 use Rattle.reading.specs.declared.Access.the-variants as access
 use Rattle.reading.specs.Kinds.{kindOf, isKnown, sizeOf}
 
--- an access's kind, the byte where its nodes begin, and "the byte after the last"; or a refusal's number
+-- an access's kind, the byte where its nodes begin, and the byte after it; or a refusal's number
 pub data Found : Type 0 where
   found : Kind → ℕ → ℕ → Found
   refused : ℕ → Found
 
+-- the answer of `access_at`
 abbrev pub foundOf : Access → Found
 foundOf (access.Here kind from next) = found kind from next
 foundOf (access.Refused k) = refused k
 
--- "Tests follow the file: an unknown kind, then missing bytes of a section or access"; a kind byte that is missing is itself 10
+-- the kind that the byte at a place selects
+abbrev pub kindAt : List ℕ → ℕ → Kind
+kindAt file at = kindOf (getD file at 0)
+
+-- the byte after the access at a place: its kind byte, then "every node 2 bytes"
+abbrev pub endOf : List ℕ → ℕ → ℕ → ℕ → ℕ
+endOf file at n w = at + 1 + 2 * sizeOf (kindAt file at) n w
+
+-- "Tests follow the file: an unknown kind, then missing bytes of a section or access". Where the kind byte is missing there is no kind to test: 10
 abbrev pub accessRows : List ℕ → ℕ → ℕ → ℕ → List Row
 accessRows file at n w =
-    let kind = kindOf (getD file at 0) in
     (10, ltb at (length file))
-    ∷ (11, isKnown kind)
-    ∷ (10, leb (at + 1 + 2 * sizeOf kind n w) (length file))
+    ∷ (11, isKnown (kindAt file at))
+    ∷ (10, leb (endOf file at n w) (length file))
     ∷ []
 
+-- a refusal by this row, of which 0 is none
 abbrev pub foundUnless : ℕ → Found → Found
 foundUnless zero x = x
 foundUnless (suc k) x = refused (suc k)
 
+-- the access at a place, for n and w
 unfoldable pub accessAt : List ℕ → ℕ → ℕ → ℕ → Found
-accessAt file at n w =
-    let kind = kindOf (getD file at 0) in
-    foundUnless (firstRow (accessRows file at n w)) (found kind (at + 1) (at + 1 + 2 * sizeOf kind n w))
+accessAt file at n w = foundUnless (firstRow (accessRows file at n w)) (found (kindAt file at) (at + 1) (endOf file at n w))

@@ -9,6 +9,7 @@ use Rattle.reading.specs.declared.Kind.the-variants.{Write, Read, Assert
 unfoldable pub kindOf : ℕ → Kind
 kindOf b = cond (eqb b 1) Write (cond (eqb b 2) Read (cond (eqb b 3) Assert (cond (eqb b 4) Check Unknown)))
 
+-- one of the four
 abbrev pub isKnown : Kind → Bool
 isKnown Write = true
 isKnown Read = true

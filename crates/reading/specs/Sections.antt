@@ -12,7 +12,7 @@ use Rattle.reading.specs.declared.Loaded.{Loaded}
 use Rattle.reading.specs.declared.Loaded.the-variants as loaded
 use Rattle.reading.specs.Bytes.{numberAt}
 
--- the words with the k nodes from a place of the file on stored from node 2 up
+-- the words with the k nodes from a place of the file on, stored from node 2 up
 unfoldable pub withNodes : List ℕ → ℕ → ℕ → List ℕ → List ℕ
 withNodes file at zero words = words
 withNodes file at (suc k) words =
@@ -24,50 +24,58 @@ pub data Sections : Type 0 where
   ready : ℕ → ℕ → ℕ → ℕ → ℕ → Sections
   refused : ℕ → Sections
 
+-- the answer of `load_sections`
 abbrev pub sectionsOf : Loaded → Sections
 sectionsOf (loaded.Ready n w count accesses at) = ready n w count accesses at
 sectionsOf (loaded.Refused k) = refused k
 
--- the record with which a case begins: that of Fresh, and the node count
+-- the record with which a case begins: that of Fresh, with the file's nodes counted
 abbrev pub firstRecord : ℕ → ℕ → ℕ → Record
 firstRecord n w count = withCount (freshRecord n w) count
+
+-- "2-byte count of nodes"
+abbrev pub nodesIn : List ℕ → ℕ
+nodesIn file = numberAt file 2
+
+-- the record of the file
+abbrev pub recordIn : List ℕ → Record
+recordIn file = firstRecord (getD file 0 0) (getD file 1 0) (nodesIn file + 2)
+
+-- the terminals and the file's nodes
+abbrev pub stored : List ℕ → List ℕ → List ℕ
+stored file words = withNodes file 4 (nodesIn file) (withTerminals words)
+
+-- "Tests follow the file: .. missing bytes of a section .., then its content (a store below 6 words counts with the nodes)".
+-- First the tests up to the place where the nodes are stored,
+abbrev pub earlyRows : List ℕ → List ℕ → List Row
+earlyRows file words =
+    (10, leb 2 (length file))
+    ∷ (1, row1 (recordIn file) words)
+    ∷ (10, leb 4 (length file))
+    ∷ (10, leb (4 + 5 * nodesIn file) (length file))
+    ∷ (2, counted words (nodesIn file + 2))
+    ∷ []
+
+-- then those after it
+abbrev pub lateRows : List ℕ → List ℕ → List Row
+lateRows file words =
+    (2, row2 (recordIn file) (stored file words))
+    ∷ (10, leb (6 + 5 * nodesIn file) (length file))
+    ∷ []
+
+-- a refusal by this row, of which 0 is none
+abbrev pub wordsUnless : ℕ → List ℕ → List ℕ → List ℕ
+wordsUnless zero new words = new
+wordsUnless (suc k) new words = words
 
 abbrev pub sectionsUnless : ℕ → Sections → Sections
 sectionsUnless zero x = x
 sectionsUnless (suc k) x = refused (suc k)
 
-abbrev pub wordsUnless : ℕ → List ℕ → List ℕ → List ℕ
-wordsUnless zero x words = x
-wordsUnless (suc k) x words = words
-
-module _ (file words : List ℕ) where
-  -- how many nodes the file has
-  abbrev pub nodesIn : ℕ
-  nodesIn = numberAt file 2
-
-  abbrev pub stored : List ℕ
-  stored = withNodes file 4 nodesIn (withTerminals words)
-
-  abbrev pub recordIn : Record
-  recordIn = firstRecord (getD file 0 0) (getD file 1 0) (nodesIn + 2)
-
-  -- "missing bytes of a section .., then its content (a store below 6 words counts with the nodes)": up to the place where the nodes are stored,
-  abbrev pub earlyRows : List Row
-  earlyRows =
-      (10, leb 2 (length file))
-      ∷ (1, row1 recordIn words)
-      ∷ (10, leb 4 (length file))
-      ∷ (10, leb (4 + 5 * nodesIn) (length file))
-      ∷ (2, counted words (nodesIn + 2))
-      ∷ []
-
-  -- and from there on
-  abbrev pub lateRows : List Row
-  lateRows = (2, row2 recordIn stored) ∷ (10, leb (6 + 5 * nodesIn) (length file)) ∷ []
-
-  -- the node words and the answer
-  unfoldable pub sections : List ℕ × Sections
-  sections = (
-    wordsUnless (firstRow earlyRows) stored words,
-    sectionsUnless (firstRow (earlyRows ++ lateRows)) (ready (getD file 0 0) (getD file 1 0) (nodesIn + 2) (numberAt file (4 + 5 * nodesIn)) (6 + 5 * nodesIn)),
-  )
+-- what reading the sections leaves of the node words, and answers
+unfoldable pub sections : List ℕ → List ℕ → List ℕ × Sections
+sections file words =
+    let end = 4 + 5 * nodesIn file in (
+      wordsUnless (firstRow (earlyRows file words)) (stored file words) words,
+      sectionsUnless (firstRow (earlyRows file words ++ lateRows file words)) (ready (getD file 0 0) (getD file 1 0) (nodesIn file + 2) (numberAt file end) (end + 2)),
+    )

@@ -16,6 +16,7 @@ pub fn kind_of(b: u8) -> Kind
     }
 }
 
+// Whether the byte selected one.
 pub fn is_known(kind: Kind) -> bool
     ensures { λ r. ⌜ r ≡ isKnown kind ⌝ }
 {

@@ -4,11 +4,6 @@ use native.Mathlib.Omega.{arith}
 use borrow.Author.Needs.{needs}
 use Rattle.reading.proofs.accesses.access_at.Statement.{statement}
 use Rattle.reading.proofs.accesses.access_at.Tie as tie
-use Rattle.reading.proofs.accesses.access_at.Reads as reads
-use Rattle.reading.proofs.accesses.access_at.Lts as lts
-use Rattle.reading.proofs.kinds.is_known.Reads as is-known-reads
-use Rattle.reading.proofs.kinds.kind_of.Reads as kind-of-reads
-use Rattle.reading.proofs.kinds.operands.Reads as operands-reads
 
 returns : tie.Need-returns
 returns c = no-kind _ _ _ _ (c .if1 .taken)

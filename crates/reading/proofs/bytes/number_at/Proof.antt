@@ -4,9 +4,6 @@ use Prim.Native.Nat.{_+_}
 use borrow.Author.Needs.{needs}
 use Rattle.reading.proofs.bytes.number_at.Statement.{statement}
 use Rattle.reading.proofs.bytes.number_at.Tie as tie
-use Rattle.reading.proofs.bytes.number_at.Reads as reads
-use Rattle.reading.proofs.bytes.number_at.Lts as lts
-use Rattle.reading.proofs.bytes.wide.Reads as wide-reads
 
 shared-slice-read-wide : tie.Need-shared-slice-read-wide
 shared-slice-read-wide c = search needs

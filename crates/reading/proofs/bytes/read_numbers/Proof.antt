@@ -7,9 +7,6 @@ use Prim.Native.Nat.{_-_, _≤_}
 use mathlib.Core.Path.{_≡_, refl, _∙_}
 use Rattle.reading.proofs.bytes.read_numbers.Statement.{statement}
 use Rattle.reading.proofs.bytes.read_numbers.Tie as tie
-use Rattle.reading.proofs.bytes.read_numbers.Reads as reads
-use Rattle.reading.proofs.bytes.read_numbers.Lts as lts
-use Rattle.reading.proofs.bytes.number_at.Reads as number-at-reads
 
 abbrev Inv-loop : tie.InvT-loop
 Inv-loop bytes at to₀ i₀ to i = (i ≤ length to₀) × (length to ≡ length to₀) × (to ≡ filledTo bytes at i to₀)

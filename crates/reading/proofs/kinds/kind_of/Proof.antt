@@ -3,8 +3,6 @@ use Rattle.reading.specs.Kinds.{kindOf}
 use Rattle.reading.proofs.KindLaws.{kind-other}
 use Rattle.reading.proofs.kinds.kind_of.Statement.{statement}
 use Rattle.reading.proofs.kinds.kind_of.Tie as tie
-use Rattle.reading.proofs.kinds.kind_of.Reads as reads
-use Rattle.reading.proofs.kinds.kind_of.Lts as lts
 
 returns : tie.Need-returns
 unfolding kindOf

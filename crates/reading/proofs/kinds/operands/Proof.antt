@@ -2,8 +2,6 @@ use Rattle.reading.specs.Kinds.{sizeOf}
 use borrow.Author.Needs.{needs}
 use Rattle.reading.proofs.kinds.operands.Statement.{statement}
 use Rattle.reading.proofs.kinds.operands.Tie as tie
-use Rattle.reading.proofs.kinds.operands.Reads as reads
-use Rattle.reading.proofs.kinds.operands.Lts as lts
 
 mul-a : tie.Need-mul-a
 mul-a c = search needs

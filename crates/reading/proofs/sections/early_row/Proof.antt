@@ -3,12 +3,6 @@ use Rattle.reading.proofs.SectionLaws.{no-head, out-of-range, no-count,
 use borrow.Author.Needs.{needs}
 use Rattle.reading.proofs.sections.early_row.Statement.{statement}
 use Rattle.reading.proofs.sections.early_row.Tie as tie
-use Rattle.reading.proofs.sections.early_row.Reads as reads
-use Rattle.reading.proofs.sections.early_row.Lts as lts
-use Rattle.reading.proofs.bytes.number_at.Reads as number-at-reads
-use Rattle.reading.proofs.bytes.wide.Reads as wide-reads
-use Rattle.reading.proofs.sections.has_room.Reads as has-room-reads
-use Rattle.reading.proofs.sections.in_range.Reads as in-range-reads
 
 returns : tie.Need-returns
 returns c = no-head (now (c .before .before .before .args .bytes)) (now (c .before .before .before .args .words)) (c .if1 .taken)

@@ -3,9 +3,6 @@ use Rattle.reading.proofs.SectionLaws.{room-is}
 use borrow.Author.Needs.{needs}
 use Rattle.reading.proofs.sections.has_room.Statement.{statement}
 use Rattle.reading.proofs.sections.has_room.Tie as tie
-use Rattle.reading.proofs.sections.has_room.Reads as reads
-use Rattle.reading.proofs.sections.has_room.Lts as lts
-use Rattle.nodes.proofs.capacity.Reads as capacity-reads
 
 add-result : tie.Need-add-result
 add-result c = search needs

@@ -5,14 +5,6 @@ use mathlib.Core.Path.{sym, _∙_}
 use borrow.Author.Needs.{needs}
 use Rattle.reading.proofs.sections.load_sections.Statement.{statement}
 use Rattle.reading.proofs.sections.load_sections.Tie as tie
-use Rattle.reading.proofs.sections.load_sections.Reads as reads
-use Rattle.reading.proofs.sections.load_sections.Lts as lts
-use Rattle.nodes.proofs.is_standard.Reads as is-standard-reads
-use Rattle.nodes.proofs.store_terminals.Reads as store-terminals-reads
-use Rattle.reading.proofs.bytes.number_at.Reads as number-at-reads
-use Rattle.reading.proofs.bytes.wide.Reads as wide-reads
-use Rattle.reading.proofs.sections.early_row.Reads as early-row-reads
-use Rattle.reading.proofs.sections.store_nodes.Reads as store-nodes-reads
 
 early-row-requires : tie.Need-early-row-requires
 early-row-requires c κs = search needs

@@ -1,11 +1,6 @@
 use borrow.Author.Needs.{needs}
 use Rattle.reading.proofs.sections.store_from.Statement.{statement}
 use Rattle.reading.proofs.sections.store_from.Tie as tie
-use Rattle.reading.proofs.sections.store_from.Reads as reads
-use Rattle.reading.proofs.sections.store_from.Lts as lts
-use Rattle.nodes.proofs.store_node.Reads as store-node-reads
-use Rattle.reading.proofs.bytes.number_at.Reads as number-at-reads
-use Rattle.reading.proofs.bytes.wide.Reads as wide-reads
 
 shared-slice-read-wide : tie.Need-shared-slice-read-wide
 shared-slice-read-wide c = search needs

@@ -8,9 +8,6 @@ use Prim.Native.Nat.{ℕ, _-_, _≤_}
 use mathlib.Core.Path.{_≡_, refl, ap, _∙_}
 use Rattle.reading.proofs.sections.store_nodes.Statement.{statement}
 use Rattle.reading.proofs.sections.store_nodes.Tie as tie
-use Rattle.reading.proofs.sections.store_nodes.Reads as reads
-use Rattle.reading.proofs.sections.store_nodes.Lts as lts
-use Rattle.reading.proofs.sections.store_from.Reads as store-from-reads
 
 abbrev Inv-loop : tie.InvT-loop
 Inv-loop bytes at k words₀ i₀ words i = (i ≤ k) × (length words ≡ length words₀) × (words ≡ withNodes bytes at i words₀)

@@ -1,0 +1,58 @@
+-- 01's file, and the table's small inputs of the rows that a reading can meet.
+use mathlib.Core.Path.{_≡_, refl}
+use mathlib.Core.List.{List, [], _∷_}
+use Prim.Native.Nat.{ℕ}
+use lib.ListN.{replicate}
+use Rattle.nodes.specs.Words.{hasWords}
+use Rattle.nodes.specs.Search.{seek, every}
+use Rattle.nodes.specs.Standard.{counted, terminals, childFits, shaped, lowest, first, isStandard}
+use Rattle.model.specs.Rows.{row1}
+use Rattle.reading.specs.declared.Kind.the-variants.{Write, Read, Check}
+use Rattle.reading.specs.Bytes.{numberAt, numbersAt}
+use Rattle.reading.specs.Kinds.{kindOf, sizeOf}
+use Rattle.reading.specs.Accesses as accesses
+use Rattle.reading.specs.Accesses.{accessAt, found}
+use Rattle.reading.specs.Sections.{withNodes, sections, ready, refused}
+
+abbrev example : List ℕ
+example =
+    1 ∷ 1 ∷ 2 ∷ 0 ∷ 8 ∷ 0 ∷ 0 ∷ 1 ∷ 0 ∷ 8 ∷ 1 ∷ 0 ∷ 0 ∷ 0 ∷ 3 ∷ 0
+    ∷ 1 ∷ 1 ∷ 0 ∷ 0 ∷ 0 ∷ 2 ∷ 0 ∷ 3 ∷ 0 ∷ 1 ∷ 0 ∷ 0 ∷ 0
+    ∷ 2 ∷ 1 ∷ 0 ∷ 0 ∷ 0 ∷ 0 ∷ 0 ∷ 1 ∷ 0
+    ∷ 4 ∷ 1 ∷ 0 ∷ 0 ∷ 0 ∷ 1 ∷ 0 ∷ 1 ∷ 0 ∷ 0 ∷ 0
+    ∷ []
+
+-- n = 1, w = 1, two nodes and three accesses; words past the nodes stay
+example-sections : sections example (replicate 14 7) ≡ (64 ∷ 0 ∷ 0 ∷ 64 ∷ 1 ∷ 1 ∷ 8 ∷ 0 ∷ 1 ∷ 8 ∷ 1 ∷ 0 ∷ 7 ∷ 7 ∷ [], ready 1 1 4 3 16)
+unfolding sections withNodes numberAt row1 counted isStandard terminals hasWords shaped childFits first lowest seek every
+example-sections = refl
+
+example-write : (accessAt example 16 1 1 ≡ found Write 17 29) × (numbersAt example 17 6 ≡ 1 ∷ 0 ∷ 2 ∷ 3 ∷ 1 ∷ 0 ∷ [])
+unfolding accessAt kindOf sizeOf numbersAt numberAt
+example-write = (refl, refl)
+
+example-read : (accessAt example 29 1 1 ≡ found Read 30 38) × (numbersAt example 30 4 ≡ 1 ∷ 0 ∷ 0 ∷ 1 ∷ [])
+unfolding accessAt kindOf sizeOf numbersAt numberAt
+example-read = (refl, refl)
+
+-- the last access ends with the file's 49 bytes
+example-check : (accessAt example 38 1 1 ≡ found Check 39 49) × (numbersAt example 39 5 ≡ 1 ∷ 0 ∷ 1 ∷ 1 ∷ 0 ∷ [])
+unfolding accessAt kindOf sizeOf numbersAt numberAt
+example-check = (refl, refl)
+
+-- row 1: n=9. Row 2: 5 words. Row 10: an empty file. Row 11: kind 0
+n-nine : sections (9 ∷ 1 ∷ []) [] ≡ ([], refused 1)
+unfolding sections row1
+n-nine = refl
+
+five-words : sections example (replicate 5 7) ≡ (replicate 5 7, refused 2)
+unfolding sections numberAt row1 counted
+five-words = refl
+
+empty-file : sections [] (replicate 6 7) ≡ (replicate 6 7, refused 10)
+unfolding sections
+empty-file = refl
+
+kind-zero : accessAt (0 ∷ []) 0 8 16 ≡ accesses.refused 11
+unfolding accessAt kindOf sizeOf
+kind-zero = refl
