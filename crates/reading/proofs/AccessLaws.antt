@@ -1,5 +1,5 @@
 -- The access at a place test by test; one that is found lies in the file.
-use mathlib.Core.Path.{_≡_, refl, ap, _∙_}
+use mathlib.Core.Path.{_≡_, refl, sym, ap, _∙_}
 use mathlib.Core.Bool.{Bool, true, false, not}
 use mathlib.Core.Logic.{_⊎_, inl, inr}
 use mathlib.Core.List.{List}
@@ -11,8 +11,10 @@ use Rattle.nodes.proofs.TestLaws.{test-fails, test-holds}
 use Rattle.model.specs.Rows.{firstRow}
 use Rattle.model.proofs.RowLaws.{rows-hold}
 use Rattle.reading.specs.declared.Kind.{Kind}
+use Rattle.reading.specs.declared.Access.{Access}
+use Rattle.reading.specs.declared.Access.the-variants.{Here}
 use Rattle.reading.specs.Kinds.{isKnown, sizeOf}
-use Rattle.reading.specs.Accesses.{found, refused, kindAt, endOf, accessRows, foundUnless, accessAt}
+use Rattle.reading.specs.Accesses.{found, refused, foundOf, kindAt, endOf, accessRows, foundUnless, accessAt}
 use Rattle.reading.proofs.RowLaws.{rows-number}
 
 -- what is known of an access found at a place
@@ -67,6 +69,10 @@ module _ (file : List ℕ) (at n w : ℕ) where
             after = omega arith;
           }
       go (suc r) q e = let z : _≡_ {A = ℕ} 0 1 = cc in absurd (omega arith)
+
+  -- the same of the function's answer
+  pub access-here : {r : Access} {kind : Kind} {from next : ℕ} → r ≡ Here kind from next → foundOf r ≡ accessAt file at n w → Lies file at n w kind from next
+  access-here e f = access-lies (ap foundOf (sym e) ∙ f)
 
   -- the rows that can refuse one
   pub access-refusal : {k : ℕ} → refused k ≡ accessAt file at n w → (k ≡ 10) ⊎ (k ≡ 11)

@@ -56,3 +56,32 @@ empty-file = refl
 kind-zero : accessAt (0 ∷ []) 0 8 16 ≡ accesses.refused 11
 unfolding accessAt kindOf sizeOf
 kind-zero = refl
+
+-- "Tests follow the file". The byte of w is missing, and n=9
+width-missing : sections (9 ∷ []) [] ≡ ([], refused 10)
+unfolding sections
+width-missing = refl
+
+-- one node is announced and missing, and there are 5 words
+nodes-missing : sections (1 ∷ 1 ∷ 1 ∷ 0 ∷ []) (replicate 5 7) ≡ (replicate 5 7, refused 10)
+unfolding sections numberAt row1
+nodes-missing = refl
+
+-- a node whose children are equal, and no count of accesses
+not-standard : sections (1 ∷ 1 ∷ 1 ∷ 0 ∷ 8 ∷ 1 ∷ 0 ∷ 1 ∷ 0 ∷ []) (replicate 9 7) ≡ (64 ∷ 0 ∷ 0 ∷ 64 ∷ 1 ∷ 1 ∷ 8 ∷ 1 ∷ 1 ∷ [], refused 2)
+unfolding sections withNodes numberAt row1 counted isStandard terminals hasWords shaped childFits first lowest seek every
+not-standard = refl
+
+-- no count of accesses after good nodes
+count-missing : sections (1 ∷ 1 ∷ 0 ∷ 0 ∷ 0 ∷ []) (replicate 6 7) ≡ (64 ∷ 0 ∷ 0 ∷ 64 ∷ 1 ∷ 1 ∷ [], refused 10)
+unfolding sections withNodes numberAt row1 counted isStandard terminals hasWords shaped childFits first lowest seek every
+count-missing = refl
+
+-- no kind byte; the bytes of a write missing but for one
+kind-missing : accessAt [] 0 1 1 ≡ accesses.refused 10
+unfolding accessAt
+kind-missing = refl
+
+write-missing : accessAt (1 ∷ 0 ∷ []) 0 1 1 ≡ accesses.refused 10
+unfolding accessAt kindOf sizeOf
+write-missing = refl

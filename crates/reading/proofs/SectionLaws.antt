@@ -23,8 +23,10 @@ use Rattle.model.specs.Claims.{Begins}
 use Rattle.model.specs.Frames.{Valid}
 use Rattle.model.proofs.RowLaws.{rows-hold}
 use Rattle.model.proofs.ThirdLaws.{is-third}
+use Rattle.reading.specs.declared.Loaded.{Loaded}
+use Rattle.reading.specs.declared.Loaded.the-variants.{Ready}
 use Rattle.reading.specs.Bytes.{numberAt}
-use Rattle.reading.specs.Sections.{withNodes, Sections, ready, refused, firstRecord, sectionsUnless, wordsUnless, nodesIn, stored, recordIn, earlyRows, lateRows, sections}
+use Rattle.reading.specs.Sections.{withNodes, Sections, ready, refused, sectionsOf, firstRecord, sectionsUnless, wordsUnless, nodesIn, stored, recordIn, earlyRows, lateRows, sections}
 use Rattle.reading.proofs.RowLaws.{rows-refuse, rows-pass, rows-number}
 
 -- of row 2's tests of the count, what is left for a count from 2 up
@@ -213,6 +215,10 @@ sections-read file words {ws} {n} {w} {count} {accesses} {at} e = go (firstRow (
         let es : ws ≡ stored file words = g ∙ ap (λ (r : ℕ). wordsUnless r (stored file words) words) (R .0) in
         rw (en, ew, ec, em, ea, es) (R .1)
     go (suc r) q f g = let z : _≡_ {A = ℕ} 0 1 = cc in absurd (omega arith)
+
+-- the same of the function's answer
+pub sections-ready : (file words : List ℕ) {ws : List ℕ} {r : Loaded} {n w count accesses at : ℕ} → r ≡ Ready n w count accesses at → (ws, sectionsOf r) ≡ sections file words → SectionsRead file words ws n w count accesses at
+sections-ready file words {ws} e f = sections-read file words (ap (λ (r : Loaded). (ws, sectionsOf r)) (sym e) ∙ f)
 
 -- a case begins in a state in which rows 1 to 3 refuse nothing, and from which demand 3 is claimed
 module _ {file words ws : List ℕ} {n w count accesses at : ℕ} (R : SectionsRead file words ws n w count accesses at) (list : List ℕ) where

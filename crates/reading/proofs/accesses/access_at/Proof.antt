@@ -1,3 +1,4 @@
+use denote.Ref.{now}
 use Rattle.reading.proofs.AccessLaws.{no-kind, kind-unknown, ends-early, stands}
 use Rattle.reading.proofs.KindLaws.{size-most}
 use native.Mathlib.Omega.{arith}
@@ -6,7 +7,7 @@ use Rattle.reading.proofs.accesses.access_at.Statement.{statement}
 use Rattle.reading.proofs.accesses.access_at.Tie as tie
 
 returns : tie.Need-returns
-returns c = no-kind _ _ _ _ (c .if1 .taken)
+returns c = no-kind (now (c .before .before .args .bytes)) (c .before .before .args .at) (c .before .before .args .n) (c .before .before .args .w) (omega arith)
 
 shared-slice-read-kind-of : tie.Need-shared-slice-read-kind-of
 shared-slice-read-kind-of c = search needs

@@ -1,3 +1,4 @@
+use native.Mathlib.Omega.{arith}
 use denote.Ref.{now}
 use Rattle.reading.proofs.SectionLaws.{no-head, out-of-range, no-count, nodes-missing, room, no-room}
 use borrow.Author.Needs.{needs}
@@ -41,16 +42,16 @@ add-if4 : tie.Need-add-if4
 add-if4 c = search needs
 
 returns-4 : tie.Need-returns-4
-returns-4 c = nodes-missing (now (c .before .before .before .before .before .before .before .before .before .before .before .before .args .bytes)) (now (c .before .before .before .before .before .before .before .before .before .before .before .before .args .words)) (c .before .before .before .before .before .before .before .before .before .if1 .left) (c .before .before .before .before .before .before .before .wide .ensures) (c .before .before .before .before .before .wide2 .ensures) (c .before .before .before .before .in-range .ensures) (c .before .before .before .if2 .left) (c .before .before .if3 .left) (c .before .number-at .ensures .0) (c .if4 .taken)
+returns-4 c = nodes-missing (now (c .before .before .before .before .before .before .before .before .before .before .before .before .args .bytes)) (now (c .before .before .before .before .before .before .before .before .before .before .before .before .args .words)) (c .before .before .before .before .before .before .before .before .before .if1 .left) (c .before .before .before .before .before .before .before .wide .ensures) (c .before .before .before .before .before .wide2 .ensures) (c .before .before .before .before .in-range .ensures) (c .before .before .before .if2 .left) (c .before .before .if3 .left) (c .before .number-at .ensures .0) (omega arith)
 
 has-room-requires : tie.Need-has-room-requires
 has-room-requires c κs = c .before .number-at .ensures .1
 
 returns-5 : tie.Need-returns-5
-returns-5 c = room (now (c .before .before .before .before .before .before .before .before .before .before .before .before .before .before .args .bytes)) (now (c .before .before .before .before .before .before .before .before .before .before .before .before .before .before .args .words)) (c .before .before .before .before .before .before .before .before .before .before .before .if1 .left) (c .before .before .before .before .before .before .before .before .before .wide .ensures) (c .before .before .before .before .before .before .before .wide2 .ensures) (c .before .before .before .before .before .before .in-range .ensures) (c .before .before .before .before .before .if2 .left) (c .before .before .before .before .if3 .left) (c .before .before .before .number-at .ensures .0) (c .before .before .if4 .left) (c .before .has-room .ensures) (c .if5 .taken)
+returns-5 c = room (now (c .before .before .before .before .before .before .before .before .before .before .before .before .before .before .args .bytes)) (now (c .before .before .before .before .before .before .before .before .before .before .before .before .before .before .args .words)) (c .before .before .before .before .before .before .before .before .before .before .before .if1 .left) (c .before .before .before .before .before .before .before .before .before .wide .ensures) (c .before .before .before .before .before .before .before .wide2 .ensures) (c .before .before .before .before .before .before .in-range .ensures) (c .before .before .before .before .before .if2 .left) (c .before .before .before .before .if3 .left) (c .before .before .before .number-at .ensures .0) (omega arith) (c .before .has-room .ensures) (c .if5 .taken)
 
 returns-6 : tie.Need-returns-6
-returns-6 c = no-room (now (c .before .before .before .before .before .before .before .before .before .before .before .before .before .before .args .bytes)) (now (c .before .before .before .before .before .before .before .before .before .before .before .before .before .before .args .words)) (c .before .before .before .before .before .before .before .before .before .before .before .if1 .left) (c .before .before .before .before .before .before .before .before .before .wide .ensures) (c .before .before .before .before .before .before .before .wide2 .ensures) (c .before .before .before .before .before .before .in-range .ensures) (c .before .before .before .before .before .if2 .left) (c .before .before .before .before .if3 .left) (c .before .before .before .number-at .ensures .0) (c .before .before .if4 .left) (c .before .has-room .ensures) (c .if5 .left)
+returns-6 c = no-room (now (c .before .before .before .before .before .before .before .before .before .before .before .before .before .before .args .bytes)) (now (c .before .before .before .before .before .before .before .before .before .before .before .before .before .before .args .words)) (c .before .before .before .before .before .before .before .before .before .before .before .if1 .left) (c .before .before .before .before .before .before .before .before .before .wide .ensures) (c .before .before .before .before .before .before .before .wide2 .ensures) (c .before .before .before .before .before .before .in-range .ensures) (c .before .before .before .before .before .if2 .left) (c .before .before .before .before .if3 .left) (c .before .before .before .number-at .ensures .0) (omega arith) (c .before .has-room .ensures) (c .if5 .left)
 
 pub early-row-spec : {M : Type 1} → statement M
 early-row-spec =
