@@ -1,5 +1,5 @@
--- A call by its row: turned down by a number, or what it does; and the answer of a call that builds one node.
-use mathlib.Core.Path.{_≡_, refl, sym, ap, _∙_}
+-- A call by its row: turned down by a number, or what it does; and what it answers of a full store, and of one that is not.
+use mathlib.Core.Path.{_≡_, refl, sym, ap, subst, _∙_}
 use mathlib.Core.Bool.{Bool, true, false, cond, _&&_}
 use mathlib.Core.List.{List, [], _∷_, _++_}
 use Prim.Native.Nat.{ℕ, zero, suc, _<_, _≤_}
@@ -14,19 +14,16 @@ use Rattle.nodes.proofs.BoolLaws.{and-both}
 use Rattle.nodes.proofs.SearchLaws.{every-is}
 use Rattle.conditions.specs.User.{isUser}
 use Rattle.conditions.specs.declared.Store.{Store}
-use Rattle.conditions.specs.declared.Built.{Built}
-use Rattle.conditions.specs.Build.{Outcome, outcome}
-use Rattle.conditions.specs.Meaning.{Builds}
-use Rattle.conditions.proofs.Promises.{builds-clear, standard-is, user-is}
+use Rattle.conditions.specs.Build.{Outcome}
+use Rattle.conditions.specs.Contract.{Sound}
+use Rattle.conditions.proofs.Promises.{standard-is, user-is}
 use Rattle.model.specs.Record as model
 use Rattle.model.specs.Rows.{Row, firstRow, users, row1, memoryRows, variableRows, iteRows, evaluateRows}
-use Rattle.model.specs.Step.{State, Call, refused, accepted, node, Result, refusal, turnedDown, unless, act, step, orNine, grown, begin, freshRecord, freshRows, freshUnless, fresh}
+use Rattle.model.specs.Step.{State, Call, refused, accepted, Result, refusal, turnedDown, cleared, unless, act, step, orNine, freshRecord, freshRows, freshUnless, fresh}
 use Rattle.model.specs.Frames.{Valid}
 use Rattle.model.proofs.RowLaws.{rows-hold, row1-n}
 use Rattle.model.proofs.StepLaws.{and3}
-use Rattle.memory.specs.declared.Record.{Record}
-use Rattle.memory.specs.declared.Noded.{Noded}
-use Rattle.memory.specs.Contract.{recordOf, stateOf, freshed, nodeAnswer, nodeDone}
+use Rattle.memory.specs.Contract.{freshed, overflow}
 
 unless-turned : (k : ℕ) (s : State) (x : Result) → (k ≡ 0 → ⊥) → unless k s x ≡ turnedDown k s
 unless-turned zero s x n = absurd (n refl)
@@ -41,25 +38,38 @@ module _ (c : Call) (s : State) {k : ℕ} (e : k ≡ refusal c s) where
   unfolding step
   acted z = rw (← e, z)
 
--- the state and answer that a node call left
-abbrev pub noded : List ℕ → List ℕ × Noded → Result
-noded l z = record { answer = nodeAnswer (z .1 .answer); after = stateOf (z .1 .after) (z .0) l }
+-- what a call answers of the program x, which left the words w and the store u; `overflow` made w′ of the words, and t says whether u is full
+module _ {A : Type 0} (s : State) (x : Outcome A) (k : A → List ℕ → ℕ → Result) {w w′ : List ℕ} {u : Store} {a : A} {t : Bool} (is : _≡_ {A = Outcome A} (record { words = w; store = u; answer = a }) x)
+    (o : (w′, t) ≡ overflow w (s .rec .count) u) where
+  full-is : {b : Bool} → t ≡ b → u .full ≡ b
+  full-is e = sym (ap (λ (z : List ℕ × Bool). z .1) o) ∙ e
 
--- what such a call says of its program
-abbrev pub oneNode : State → Outcome ℕ → Result
-oneNode s x = orNine s x (λ n w k. record { answer = node n; after = grown s w k })
+  words-are : {b : Bool} → t ≡ b → w′ ≡ cond b (clearOf w (s .rec .count)) w
+  words-are e = ap (λ (z : List ℕ × Bool). z .0) o ∙ ap (λ (b : Bool). cond b (clearOf w (s .rec .count)) w) (full-is e)
 
-done-acts : (f : Bool) (r : Record) (w w′ l : List ℕ) (c n : ℕ) → clearOf w′ (r .count) ≡ clearOf w (r .count)
-    → oneNode (stateOf r w l) (record { words = w′; store = record { count = c; full = f }; answer = n }) ≡ noded l (nodeDone r w′ (record { store = record { count = c; full = f }; node = n }))
-unfolding orNine
-done-acts true r w w′ l c n e = rw e
-done-acts false r w w′ l c n e = refl
+  acts-by : {b : Bool} → t ≡ b → orNine s x k ≡ cond b (cleared 9 s) (k a w (u .count))
+  unfolding orNine
+  acts-by e = ap (λ (y : Outcome A). cond (y .store .full) (cleared 9 s) (k (y .answer) (y .words) (y .store .count))) (sym is) ∙ ap (λ (b : Bool). cond b (cleared 9 s) (k a w (u .count))) (full-is e)
 
-pub node-acts : (r : Record) (w l w′ : List ℕ) (b : Built) (x : Outcome ℕ) {P : List ℕ → Store → ℕ → Type 0} {z : List ℕ × Noded}
-    → Builds w (begin (recordOf r)) P x → outcome w′ b ≡ x → z ≡ nodeDone r w′ b → oneNode (stateOf r w l) x ≡ noded l z
-node-acts r w l w′ b x B is q =
-    ap (oneNode (stateOf r w l)) (sym is)
-    ∙ done-acts (b .store .full) r w w′ l (b .store .count) (b .node) (ap (λ (y : Outcome ℕ). clearOf (y .words) (r .count)) is ∙ builds-clear B) ∙ ap (noded l) (sym q)
+  pub nine-acts : clearOf (x .words) (s .rec .count) ≡ clearOf (s .words) (s .rec .count) → t ≡ true → orNine s x k ≡ record { answer = refused 9; after = record { rec = s .rec; words = w′; list = s .list } }
+  nine-acts cl e =
+      let g : w′ ≡ clearOf (s .words) (s .rec .count) = words-are e ∙ ap (λ (y : Outcome A). clearOf (y .words) (s .rec .count)) is ∙ cl in
+      acts-by e ∙ ap (λ (l : List ℕ). record { answer = refused 9; after = record { rec = s .rec; words = l; list = s .list } }) (sym g)
+
+  pub done-acts : t ≡ false → orNine s x k ≡ k a w′ (u .count)
+  done-acts e = acts-by e ∙ ap (λ (l : List ℕ). k a l (u .count)) (sym (words-are e))
+
+-- a store that is not full: the words stay, and it goes on sound
+pub over-left : {w w′ : List ℕ} (c : ℕ) (u : Store) {t : Bool} → (w′, t) ≡ overflow w c u → t ≡ false → (w′ ≡ w) × (u .full ≡ false)
+over-left {w} c u o e =
+    let f : u .full ≡ false = sym (ap (λ (z : List ℕ × Bool). z .1) o) ∙ e in
+    (ap (λ (z : List ℕ × Bool). z .0) o ∙ ap (λ (b : Bool). cond b (clearOf w c) w) f, f)
+
+pub not-full : {w m : List ℕ} (u : Store) → u .full ≡ false → Sound w m u → Sound w m (record { count = u .count; full = false })
+not-full {w} {m} u f S = subst (λ (b : Bool). Sound w m (record { count = u .count; full = b })) f S
+
+pub over-sound : {w w′ m : List ℕ} (c : ℕ) (u : Store) {t : Bool} → (w′, t) ≡ overflow w c u → t ≡ false → Sound w m u → Sound w′ m (record { count = u .count; full = false })
+over-sound {w} {w′} {m} c u o e S = let g = over-left c u o e in subst (λ (l : List ℕ). Sound l m (record { count = u .count; full = false })) (sym (g .0)) (not-full u (g .1) S)
 
 -- Fresh by its row
 fresh-unless : (k : ℕ) (g r : model.Record) (w : List ℕ) → (k ≡ 0 → ⊥) → freshed (freshUnless k g r w) ≡ (refused k, g, w)

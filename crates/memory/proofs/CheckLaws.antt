@@ -1,16 +1,14 @@
--- A check by its rows, and its answer.
-use mathlib.Core.Path.{_≡_, refl, sym, ap, _∙_}
+-- A check by its rows.
+use mathlib.Core.Path.{_≡_, refl, sym, _∙_}
 use mathlib.Core.Bool.{Bool, true, false}
 use mathlib.Core.List.{List}
 use Prim.Native.Nat.{ℕ, _*_, _<_, _≤_}
 use lib.ListN.{length, getD}
 use Rattle.nodes.specs.Clear.{clearOf}
-use Rattle.conditions.specs.declared.Built.{Built}
-use Rattle.conditions.specs.Build.{Outcome, outcome}
 use Rattle.conditions.proofs.Promises.{builds-clear, user-is}
 use Rattle.model.specs.Access as built
 use Rattle.model.specs.Rows.{firstRow, checkRows}
-use Rattle.model.specs.Step.{State, accepted, Result, orNine, withChecked, begin}
+use Rattle.model.specs.Step.{begin}
 use Rattle.model.specs.Claims.{pairs}
 use Rattle.model.specs.Meanings.{entryValues}
 use Rattle.model.proofs.MeansLaws.{user-means}
@@ -22,8 +20,7 @@ use Rattle.model.proofs.EntryLaws.{holds-values}
 use Rattle.model.proofs.FrameLaws.{compares}
 use Rattle.access.specs.Contract.{Nodes, Looks}
 use Rattle.memory.specs.declared.Record.{Record}
-use Rattle.memory.specs.declared.Checked.{Checked}
-use Rattle.memory.specs.Contract.{recordOf, stateOf, checkAnswer, checkDone}
+use Rattle.memory.specs.Contract.{recordOf, stateOf}
 use Rattle.memory.proofs.CallLaws.{in-range-few, users-nodes}
 
 -- what its rows leave
@@ -67,23 +64,3 @@ check-holds r w l b a d e z =
       checked = user-is w (r .count) (r .checked) (K .third .checked) .0;
       clears = builds-clear (check-means R l (K .few) (entryValues σ s) b _ _ a d (pairs σ w a (r .n)) (pairs σ w d (r .w)) (length-pairs σ w a 0 (r .n)) w (begin R) S (holds-values σ s S (K .third) .entries) (user-means {s = begin R} S (K .control)) A D (user-means {s = begin R} S (K .third .checked)));
     }
-
--- what a check left
-abbrev pub checked : List ℕ → List ℕ × Checked → Result
-checked l z = record { answer = checkAnswer (z .1 .answer); after = stateOf (z .1 .after) (z .0) l }
-
--- what it says of its program
-abbrev pub oneCondition : State → Outcome ℕ → Result
-oneCondition s x = orNine s x (λ v w k. record { answer = accepted; after = withChecked s w k v })
-
-done-acts : (f : Bool) (r : Record) (w w′ l : List ℕ) (c n : ℕ) → clearOf w′ (r .count) ≡ clearOf w (r .count)
-    → oneCondition (stateOf r w l) (record { words = w′; store = record { count = c; full = f }; answer = n }) ≡ checked l (checkDone r w′ (record { store = record { count = c; full = f }; node = n }))
-unfolding orNine
-done-acts true r w w′ l c n e = rw e
-done-acts false r w w′ l c n e = refl
-
-pub check-acts : (r : Record) (w l w′ : List ℕ) (b : Built) (x : Outcome ℕ) {z : List ℕ × Checked} → clearOf (x .words) (r .count) ≡ clearOf w (r .count)
-    → outcome w′ b ≡ x → z ≡ checkDone r w′ b → oneCondition (stateOf r w l) x ≡ checked l z
-check-acts r w l w′ b x cl is q =
-    ap (oneCondition (stateOf r w l)) (sym is)
-    ∙ done-acts (b .store .full) r w w′ l (b .store .count) (b .node) (ap (λ (y : Outcome ℕ). clearOf (y .words) (r .count)) is ∙ cl) ∙ ap (checked l) (sym q)

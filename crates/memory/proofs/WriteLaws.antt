@@ -1,5 +1,5 @@
--- A write by its rows, and its answer.
-use mathlib.Core.Path.{_≡_, refl, sym, ap, _∙_}
+-- A write by its rows.
+use mathlib.Core.Path.{_≡_, refl, sym, _∙_}
 use mathlib.Core.Bool.{Bool, true, false}
 use mathlib.Core.List.{List, []}
 use Prim.Native.Nat.{ℕ, _*_, _<_, _≤_}
@@ -9,23 +9,20 @@ use lib.ListN.{length, getD}
 use borrow.Author.Tests.{eqb-true, ltb-true}
 use Rattle.nodes.specs.Clear.{clearOf}
 use Rattle.nodes.proofs.SearchLaws.{every-is}
-use Rattle.conditions.specs.Build.{Outcome}
 use Rattle.conditions.specs.Value.{value}
 use Rattle.conditions.specs.User.{isUser}
 use Rattle.conditions.proofs.Promises.{builds-clear, standard-is}
 use Rattle.model.specs.Record as model
 use Rattle.model.specs.Access as built
 use Rattle.model.specs.Rows.{firstRow, users, writeRows}
-use Rattle.model.specs.Step.{State, place, Result, orNine, grown, withEntry, begin}
+use Rattle.model.specs.Step.{begin}
 use Rattle.model.specs.Claims.{pairs}
 use Rattle.model.proofs.MeansLaws.{user-means}
 use Rattle.model.proofs.AccessLaws.{write-means}
 use Rattle.model.proofs.RowLaws.{rows-hold, length-pairs, users-halves}
 use Rattle.model.proofs.StepLaws.{and3}
-use Rattle.access.specs.declared.Marks.{Marks}
 use Rattle.memory.specs.declared.Record.{Record}
-use Rattle.memory.specs.declared.Written.{Written}
-use Rattle.memory.specs.Contract.{recordOf, stateOf, writeAnswer, writeDone}
+use Rattle.memory.specs.Contract.{recordOf}
 use Rattle.memory.proofs.CallLaws.{in-range-few, users-nodes}
 
 -- what its rows leave
@@ -56,23 +53,3 @@ write-holds r w l c a d e z =
       address = users-nodes R w a (U .1);
       clears = builds-clear (write-means (r .n) (getD c 0 0) (getD c 1 0) a (record { h = value w σ (getD c 0 0); l = value w σ (getD c 1 0) }) (pairs σ w a (r .n)) [] (length-pairs σ w a 0 (r .n)) w (begin R) S (user-means {s = begin R} S (u 0 (omega arith))) (user-means {s = begin R} S (u 1 (omega arith))) (users-halves σ R w S a (r .n) (eqb-true (length a) (2 * r .n) (L .1)) (U .1)));
     }
-
--- what a write left
-abbrev pub written : List ℕ × List ℕ × Written → Result
-written z = record { answer = writeAnswer (z .2 .answer); after = stateOf (z .2 .after) (z .0) (z .1) }
-
--- what it says of its program
-abbrev pub oneEntry : State → List ℕ → List ℕ → Outcome built.Marks → Result
-oneEntry s a d x = orNine s x (λ m w k. record { answer = place (s .rec .entries); after = withEntry (grown s w k) m a d })
-
-done-acts : (f : Bool) (r : Record) (w w′ l a d : List ℕ) (c h s : ℕ) → clearOf w′ (r .count) ≡ clearOf w (r .count)
-    → oneEntry (stateOf r w l) a d (record { words = w′; store = record { count = c; full = f }; answer = record { hard = h; soft = s } }) ≡ written (writeDone r w′ l (record { store = record { count = c; full = f }; hard = h; soft = s }) a d)
-unfolding orNine model.appended
-done-acts true r w w′ l a d c h s e = rw e
-done-acts false r w w′ l a d c h s e = refl
-
-pub write-acts : (r : Record) (w l a d w′ : List ℕ) (m : Marks) (x : Outcome built.Marks) {z : List ℕ × List ℕ × Written} → clearOf (x .words) (r .count) ≡ clearOf w (r .count)
-    → _≡_ {A = Outcome built.Marks} (record { words = w′; store = m .store; answer = record { hard = m .hard; soft = m .soft } }) x → z ≡ writeDone r w′ l m a d → oneEntry (stateOf r w l) a d x ≡ written z
-write-acts r w l a d w′ m x cl is q =
-    ap (oneEntry (stateOf r w l) a d) (sym is)
-    ∙ done-acts (m .store .full) r w w′ l a d (m .store .count) (m .hard) (m .soft) (ap (λ (y : Outcome built.Marks). clearOf (y .words) (r .count)) is ∙ cl) ∙ ap written (sym q)

@@ -1,28 +1,33 @@
 -- What the calls promise: each is the model's `step`.
 use mathlib.Core.Path.{_≡_}
-use mathlib.Core.Bool.{cond}
+use mathlib.Core.Bool.{Bool, true, false, cond}
 use mathlib.Core.List.{List}
-use Prim.Native.Nat.{ℕ, zero, suc, _+_, _*_, _<_, _≤_}
+use Prim.Native.Nat.{ℕ, zero, suc, _*_, _<_, _≤_}
 use lib.ListN.{length, getD}
 use Rattle.nodes.specs.Clear.{clearOf}
-use Rattle.conditions.specs.declared.Built.{Built}
-use Rattle.access.specs.declared.Marks.{Marks}
+use Rattle.conditions.specs.declared.Store.{Store}
+use Rattle.conditions.specs.Build.{Outcome}
+use Rattle.conditions.specs.Contract.{Sound}
 use Rattle.model.specs.Record as model
-use Rattle.model.specs.Step.{State, Call, Answer, refused, place, accepted, valued, node, step, Fresh}
+use Rattle.model.specs.Access as built
+use Rattle.model.specs.Step.{State, Call, read, Answer, refused, place, filled, entered, kept, accepted, valued, node, isRefused, answerWords, begin, step, enter, Fresh}
+use Rattle.access.specs.Contract.{Nodes}
 use Rattle.memory.specs.declared.Record.{Record}
 use Rattle.memory.specs.declared.FreshAnswer.{FreshAnswer}
 use Rattle.memory.specs.declared.FreshAnswer.the-variants as fresh
 use Rattle.memory.specs.declared.WriteAnswer.{WriteAnswer}
 use Rattle.memory.specs.declared.WriteAnswer.the-variants as write
-use Rattle.memory.specs.declared.Written.{Written}
+use Rattle.memory.specs.declared.ReadAnswer.{ReadAnswer}
+use Rattle.memory.specs.declared.ReadAnswer.the-variants as reads
+use Rattle.memory.specs.declared.AssertAnswer.{AssertAnswer}
+use Rattle.memory.specs.declared.AssertAnswer.the-variants as asserts
 use Rattle.memory.specs.declared.CheckAnswer.{CheckAnswer}
 use Rattle.memory.specs.declared.CheckAnswer.the-variants as check
-use Rattle.memory.specs.declared.Checked.{Checked}
 use Rattle.memory.specs.declared.NodeAnswer.{NodeAnswer}
 use Rattle.memory.specs.declared.NodeAnswer.the-variants as node
-use Rattle.memory.specs.declared.Noded.{Noded}
 use Rattle.memory.specs.declared.ValueAnswer.{ValueAnswer}
 use Rattle.memory.specs.declared.ValueAnswer.the-variants as value
+use Rattle.memory.specs.declared.assert.Asserted.{Asserted}
 
 -- the record, node words and list of a call
 abbrev pub recordOf : Record → model.Record
@@ -47,6 +52,16 @@ abbrev pub writeAnswer : WriteAnswer → Answer
 writeAnswer (write.Place k) = place k
 writeAnswer (write.Refused k) = refused k
 
+-- a filled read's answer are the words that it filled
+abbrev pub readAnswer : ReadAnswer → List ℕ → Answer
+readAnswer reads.Filled out = filled out
+readAnswer (reads.Refused k) out = refused k
+
+abbrev pub assertAnswer : AssertAnswer → Answer
+assertAnswer asserts.Entered = entered
+assertAnswer asserts.Kept = kept
+assertAnswer (asserts.Refused k) = refused k
+
 abbrev pub checkAnswer : CheckAnswer → Answer
 checkAnswer check.Accepted = accepted
 checkAnswer (check.Refused k) = refused k
@@ -67,36 +82,62 @@ Answers c s t a = step c s ≡ record { answer = a; after = t }
 abbrev pub AnswersNoList : Call → Record → List ℕ → Record → List ℕ → Answer → Type 0
 AnswersNoList c r w r′ w′ a = (l : List ℕ) → Answers c (stateOf r w l) (stateOf r′ w′ l) a
 
--- what a call that builds one node leaves of the node words, and answers
-abbrev pub nodeDone : Record → List ℕ → Built → List ℕ × Noded
-nodeDone r w b =
-    cond (b .store .full) (clearOf w (r .count), record { after = r; answer = node.Refused 9 })
-    (w, record { after = record { n = r .n; w = r .w; count = b .store .count; entries = r .entries; asserted = r .asserted; checked = r .checked }; answer = node.Node (b .node) })
+-- a read: its step, and the answer words as it leaves them
+pub record ReadAnswers (r : Record) (w l e a out : List ℕ) (r′ : Record) (w′ out′ : List ℕ) (x : ReadAnswer) : Type 0 where
+  pub is : Answers (read e a out) (stateOf r w l) (stateOf r′ w′ l) (readAnswer x out′)
+  pub leaves : out′ ≡ answerWords (readAnswer x out′) out
+
+-- where an access is accepted, the computed table is right for the next
+abbrev pub Next : State → Answer → List ℕ → Type 0
+Next t a table = isRefused a ≡ false → Sound (t .words) table (begin (t .rec))
+
+-- an access to a valid memory, with the table lent
+pub record AnswersOn (c : Call) (s t : State) (a : Answer) (table : List ℕ) : Type 0 where
+  pub is : Answers c s t a
+  pub sound : Next t a table
+
+pub record ReadAnswersOn (r : Record) (w l e a out : List ℕ) (r′ : Record) (w′ out′ : List ℕ) (x : ReadAnswer) (table : List ℕ) : Type 0 where
+  pub is : ReadAnswers r w l e a out r′ w′ out′ x
+  pub sound : Next (stateOf r′ w′ l) (readAnswer x out′) table
+
+-- "After 9 .. all node words from the count to capacity are 0": the words of a full store, and whether it is full
+abbrev pub overflow : List ℕ → ℕ → Store → List ℕ × Bool
+overflow w c s = (cond (s .full) (clearOf w c) w, s .full)
 
 -- the first k words of a slice are nodes
 pub record FirstNodes (c k : ℕ) (ws : List ℕ) : Type 0 where
   pub at : (i : ℕ) → i < k → getD ws i 0 < c
 
--- what a write with these marks leaves of node words and list, and answers
-abbrev pub writeDone : Record → List ℕ → List ℕ → Marks → List ℕ → List ℕ → List ℕ × List ℕ × Written
-writeDone r w l m a d =
-    cond (m .store .full) (clearOf w (r .count), l, record { after = r; answer = write.Refused 9 }) (
-      w,
-      model.appended (recordOf r) l (m .hard) (m .soft) a d,
-      record { after = record { n = r .n; w = r .w; count = m .store .count; entries = r .entries + 1; asserted = r .asserted; checked = r .checked }; answer = write.Place (r .entries) },
-    )
-
--- what a check that built this condition leaves of the node words, and answers
-abbrev pub checkDone : Record → List ℕ → Built → List ℕ × Checked
-checkDone r w b =
-    cond (b .store .full) (clearOf w (r .count), record { after = r; answer = check.Refused 9 })
-    (w, record { after = record { n = r .n; w = r .w; count = b .store .count; entries = r .entries; asserted = r .asserted; checked = b .node }; answer = check.Accepted })
-
--- a list with space for one entry more
-pub record WritesInto (r : Record) (w l a d : List ℕ) : Type 0 where
+-- a list with space for one entry more, and the entry's address and data
+pub record Space (r : Record) (l a d : List ℕ) : Type 0 where
   pub few : r .n ≤ 8
   pub wide : r .w ≤ 16
-  pub words : r .count * 3 ≤ length w
   pub space : r .entries < model.listCapacity (recordOf r) l
-  pub address : length a ≡ 2 * r .n
+  pub pairs : length a ≡ 2 * r .n
   pub word : length d ≡ 2 * r .w
+
+-- what an assert builds before its entry, as `conditions` has it of one node
+pub record AssertedDid (s : Store) (w t : List ℕ) (q : Asserted) (x : Outcome built.Asserted) : Type 0 where
+  pub is : _≡_ {A = Outcome built.Asserted} (record { words = w; store = q .store; answer = record { condition = q .condition; unless = q .unless; keep = q .keep } }) x
+  pub sound : Sound w t (q .store)
+  pub more : s .count ≤ q .store .count
+  pub node : q .unless < q .store .count
+
+-- an assert that may be entered
+pub record Enters (r : Record) (w l table : List ℕ) (b : ℕ) (a d : List ℕ) (q : Asserted) : Type 0 where
+  pub few : r .n ≤ 8
+  pub wide : r .w ≤ 16
+  pub sound : Sound w table (q .store)
+  pub fits : q .store .full ≡ false
+  pub more : r .count ≤ q .store .count
+  pub control : b < r .count
+  pub unless : q .unless < q .store .count
+  pub pairs : length a ≡ 2 * r .n
+  pub nodes : Nodes (r .count) a
+  pub word : length d ≡ 2 * r .w
+  pub clears : clearOf (built.Write (r .n) b (q .unless) a w (record { count = q .store .count; full = false }) .words) (r .count) ≡ clearOf w (r .count)
+
+-- it is entered, or kept
+pub record Entered (r : Record) (w l : List ℕ) (b : ℕ) (a d : List ℕ) (q : Asserted) (r′ : Record) (w′ l′ : List ℕ) (x : AssertAnswer) (table : List ℕ) : Type 0 where
+  pub is : enter (stateOf r w l) b a d (record { condition = q .condition; unless = q .unless; keep = q .keep }) w (q .store .count) ≡ record { answer = assertAnswer x; after = stateOf r′ w′ l′ }
+  pub sound : Next (stateOf r′ w′ l′) (assertAnswer x) table

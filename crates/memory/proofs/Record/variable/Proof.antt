@@ -1,9 +1,10 @@
-use mathlib.Core.Path.{_∙_}
-use denote.Ref.{now}
-use Rattle.model.specs.Step.{variable, act}
-use Rattle.conditions.proofs.Promises.{zeros-sound, variable-builds}
+use Rattle.memory.proofs.CallLaws.{turned, acted, nine-acts, done-acts, variable-holds}
 use Rattle.memory.specs.Contract.{recordOf, stateOf}
-use Rattle.memory.proofs.CallLaws.{turned, acted, variable-holds, node-acts}
+use Rattle.conditions.proofs.Promises.{zeros-sound, builds-clear, variable-builds}
+use Rattle.model.specs.Step.{variable, act}
+use denote.Ref.{now}
+use native.Mathlib.Omega.{arith}
+use mathlib.Core.Path.{_∙_}
 use borrow.Author.Needs.{needs}
 use Rattle.memory.proofs.Record.variable.Statement.{statement}
 use Rattle.memory.proofs.Record.variable.Tie as tie
@@ -17,13 +18,18 @@ same-length c = search needs
 returns : tie.Need-returns
 returns c = λ l. turned (variable (c .before .before .before .before .args .v)) (stateOf (c .before .before .before .before .args .self) (now (c .before .before .before .before .args .words)) l) (c .before .variable-row .ensures) (c .if1 .taken)
 
+begin-requires : tie.Need-begin-requires
+begin-requires c κs = search needs
+
 variable-requires : tie.Need-variable-requires
 variable-requires c κs =
-    let H = variable-holds (recordOf (c .before .before .before .before .before .before .args .self)) (now (c .before .before .before .before .before .before .args .words)) (c .before .before .before .before .before .before .args .v) (c .before .before .before .variable-row .ensures) (c .before .before .if1 .left) in
-    (zeros-sound _ 8192 (H .0), H .1)
+    let H = variable-holds (recordOf (c .before .before .before .before .before .before .before .args .self)) (now (c .before .before .before .before .before .before .before .args .words)) (c .before .before .before .before .before .before .before .args .v) (c .before .before .before .before .variable-row .ensures) (c .before .before .before .if1 .left) in
+    rw (c .begin .ensures) (zeros-sound _ 8192 (H .0), H .1)
 
-node-done-requires : tie.Need-node-done-requires
-node-done-requires c κs = search needs
+overflowed-requires : tie.Need-overflowed-requires
+overflowed-requires c κs =
+    let X = rw (c .before .before .before .before .begin .ensures) at (c .before .before .before .variable .ensures) in
+    omega (arith, X .more, X .sound .standard .room)
 
 same-length-2 : tie.Need-same-length-2
 same-length-2 c = search needs
@@ -31,9 +37,18 @@ same-length-2 c = search needs
 returns-2 : tie.Need-returns-2
 unfolding act
 returns-2 c =
-    let H = variable-holds (recordOf (c .before .before .before .before .before .before .before .before .before .before .before .before .before .args .self)) (now (c .before .before .before .before .before .before .before .before .before .before .before .before .before .args .words)) (c .before .before .before .before .before .before .before .before .before .before .before .before .before .args .v) (c .before .before .before .before .before .before .before .before .before .before .variable-row .ensures) (c .before .before .before .before .before .before .before .before .before .if1 .left) in
-    λ l. acted (variable (c .before .before .before .before .before .before .before .before .before .before .before .before .before .args .v)) (stateOf (c .before .before .before .before .before .before .before .before .before .before .before .before .before .args .self) (now (c .before .before .before .before .before .before .before .before .before .before .before .before .before .args .words)) l) (c .before .before .before .before .before .before .before .before .before .before .variable-row .ensures) (c .before .before .before .before .before .before .before .before .before .if1 .left)
-    ∙ node-acts (c .before .before .before .before .before .before .before .before .before .before .before .before .before .args .self) (now (c .before .before .before .before .before .before .before .before .before .before .before .before .before .args .words)) l _ _ _ (variable-builds (H .0) (H .1)) (c .before .before .before .before .before .before .variable .ensures .is) (c .before .before .node-done .ensures)
+    let H = variable-holds (recordOf (c .before .before .before .before .before .before .before .before .before .before .before .before .before .before .before .args .self)) (now (c .before .before .before .before .before .before .before .before .before .before .before .before .before .before .before .args .words)) (c .before .before .before .before .before .before .before .before .before .before .before .before .before .before .before .args .v) (c .before .before .before .before .before .before .before .before .before .before .before .before .variable-row .ensures) (c .before .before .before .before .before .before .before .before .before .before .before .if1 .left) in
+    let X = rw (c .before .before .before .before .before .before .before .before .begin .ensures) at (c .before .before .before .before .before .before .before .variable .ensures) in
+    λ l. acted (variable (c .before .before .before .before .before .before .before .before .before .before .before .before .before .before .before .args .v)) (stateOf (c .before .before .before .before .before .before .before .before .before .before .before .before .before .before .before .args .self) (now (c .before .before .before .before .before .before .before .before .before .before .before .before .before .before .before .args .words)) l) (c .before .before .before .before .before .before .before .before .before .before .before .before .variable-row .ensures) (c .before .before .before .before .before .before .before .before .before .before .before .if1 .left) ∙ nine-acts (stateOf (c .before .before .before .before .before .before .before .before .before .before .before .before .before .before .before .args .self) (now (c .before .before .before .before .before .before .before .before .before .before .before .before .before .before .before .args .words)) l) _ _ (X .is) (c .before .before .before .overflowed .ensures) (builds-clear (variable-builds (H .0) (H .1))) (c .if2 .taken)
+
+same-length-3 : tie.Need-same-length-3
+same-length-3 c = search needs
+
+returns-3 : tie.Need-returns-3
+unfolding act
+returns-3 c =
+    let X = rw (c .before .before .before .before .before .before .before .before .before .begin .ensures) at (c .before .before .before .before .before .before .before .before .variable .ensures) in
+    λ l. acted (variable (c .before .before .before .before .before .before .before .before .before .before .before .before .before .before .before .before .args .v)) (stateOf (c .before .before .before .before .before .before .before .before .before .before .before .before .before .before .before .before .args .self) (now (c .before .before .before .before .before .before .before .before .before .before .before .before .before .before .before .before .args .words)) l) (c .before .before .before .before .before .before .before .before .before .before .before .before .before .variable-row .ensures) (c .before .before .before .before .before .before .before .before .before .before .before .before .if1 .left) ∙ done-acts (stateOf (c .before .before .before .before .before .before .before .before .before .before .before .before .before .before .before .before .args .self) (now (c .before .before .before .before .before .before .before .before .before .before .before .before .before .before .before .before .args .words)) l) _ _ (X .is) (c .before .before .before .before .overflowed .ensures) (c .before .if2 .left)
 
 pub variable-spec : {M : Type 1} → statement M
 variable-spec =
@@ -42,7 +57,10 @@ variable-spec =
     variable-row-requires
     same-length
     returns
+    begin-requires
     variable-requires
-    node-done-requires
+    overflowed-requires
     same-length-2
-    returns-2)
+    returns-2
+    same-length-3
+    returns-3)

@@ -2,8 +2,8 @@ use Rattle.model.specs.Rows.{row1}
 use borrow.Author.Tests.{lt-leb, le-leb}
 use Rattle.nodes.proofs.TestLaws.{test-fails, test-holds}
 use borrow.Author.Needs.{needs}
-use Rattle.memory.proofs.fresh_row.Statement.{statement}
-use Rattle.memory.proofs.fresh_row.Tie as tie
+use Rattle.memory.proofs.node_calls.fresh_row.Statement.{statement}
+use Rattle.memory.proofs.node_calls.fresh_row.Tie as tie
 
 in-range-requires : tie.Need-in-range-requires
 in-range-requires c κs = search needs

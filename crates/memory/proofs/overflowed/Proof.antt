@@ -1,6 +1,6 @@
 use borrow.Author.Needs.{needs}
-use Rattle.memory.proofs.Record.check_done.Statement.{statement}
-use Rattle.memory.proofs.Record.check_done.Tie as tie
+use Rattle.memory.proofs.overflowed.Statement.{statement}
+use Rattle.memory.proofs.overflowed.Tie as tie
 
 clear-requires : tie.Need-clear-requires
 clear-requires c κs = search needs
@@ -14,5 +14,5 @@ returns c = rw (c .before .before .before .before .if1 .taken, c .before .before
 returns-2 : tie.Need-returns-2
 returns-2 c = rw (c .if1 .left)
 
-pub check-done-spec : {M : Type 1} → statement M
-check-done-spec = tie.close (tie.spec clear-requires same-length returns returns-2)
+pub overflowed-spec : {M : Type 1} → statement M
+overflowed-spec = tie.close (tie.spec clear-requires same-length returns returns-2)
