@@ -1,0 +1,349 @@
+-- A case that is accepted: what its accesses answered, what they left, and its text.
+use mathlib.Core.Path.{_≡_, refl, sym, ap, subst, _∙_}
+use mathlib.Core.Bool.{Bool, true, false, cond}
+use mathlib.Core.List.{List, _++_}
+use Prim.Native.Nat.{ℕ, zero, suc, _+_, _*_, _≤_}
+use native.Mathlib.Nat.{zero-add}
+use native.Mathlib.Omega.{arith}
+use lib.Dec.{T, ltb}
+use lib.ListN.{length, getD, drop}
+use borrow.Author.Tests.{ltb-true, ltb-false}
+use Rattle.text.specs.declared.Text.{Text}
+use Rattle.text.specs.Text.{Out, out, growing, appended}
+use Rattle.text.proofs.TextLaws.{appended-append, appended-fits, appended-over, appended-is-full}
+use Rattle.lines.specs.Lines.{endLine}
+use Rattle.conditions.specs.Value.{value}
+use Rattle.conditions.specs.Assignment.{bitAt}
+use Rattle.model.specs.Record.{Record}
+use Rattle.model.specs.Step.{State, Call, Answer, place, filled, entered, kept, accepted, valued, node, isRefused, step, run}
+use Rattle.model.specs.Step as model
+use Rattle.model.specs.Frames.{SuccessLeaves}
+use Rattle.model.specs.Claims.{Begins, Demand3}
+use Rattle.model.proofs.FrameLaws.{success-leaves}
+use Rattle.model.proofs.Demand3.{demand3}
+use Rattle.reading.specs.declared.Kind.{Kind}
+use Rattle.reading.specs.Bytes.{numbersAt}
+use Rattle.reading.specs.Kinds.{sizeOf}
+use Rattle.reading.specs.Accesses.{Found, found, kindAt, endOf, accessAt}
+use Rattle.reading.specs.Accesses as accesses
+use Rattle.reading.specs.Sections.{Sections, ready, firstRecord, sections}
+use Rattle.reading.specs.Sections as sections
+use Rattle.reading.proofs.AccessLaws.{access-lies}
+use Rattle.reading.proofs.SectionLaws.{sections-read, sections-begin}
+use Rattle.memory.specs.declared.Record as memory
+use Rattle.memory.specs.Contract.{recordOf}
+use Rattle.casefile.specs.declared.CaseAnswer.{CaseAnswer}
+use Rattle.casefile.specs.declared.CaseAnswer.the-variants as answer
+use Rattle.casefile.specs.Contract.{answered, caseAs}
+use Rattle.casefile.specs.Case.{callOf, lineOf, Running, Next, goes, stops, printed, said, done, doneAs, one, Ended, ended, stopped, lastPrinted, last, after, rest, afterSections, whole, accepts, Case, closed, caseOf, refuses}
+use Rattle.casefile.specs.Claims.{callAt, callsFrom, endFrom, accessesIn, firstAt, callsIn, stateIn, AllAccepted, linesOf, CaseText, CaseExactly, RefusedAfter, CaseRefused}
+use Rattle.casefile.proofs.RestLaws.{last-left, last-printed}
+
+-- an access that goes on was accepted, and its line fitted
+record SaidGoes (a : Answer) (s : State) (at : ℕ) (o : Out) (c : Running) : Type 0 where
+  accepted : isRefused a ≡ false
+  is : printed s at (appended (lineOf a s) o) ≡ goes c
+
+said-goes : (a : Answer) (s : State) (at : ℕ) (o : Out) (c : Running) → said a s at o ≡ goes c → SaidGoes a s at o c
+said-goes (model.refused k) s at o c e = let z : _≡_ {A = ℕ} 0 1 = cc in absurd (omega arith)
+said-goes (place k) s at o c e = record { accepted = refl; is = e }
+said-goes (filled r) s at o c e = record { accepted = refl; is = e }
+said-goes entered s at o c e = record { accepted = refl; is = e }
+said-goes kept s at o c e = record { accepted = refl; is = e }
+said-goes accepted s at o c e = record { accepted = refl; is = e }
+said-goes (valued b) s at o c e = record { accepted = refl; is = e }
+said-goes (node n) s at o c e = record { accepted = refl; is = e }
+
+printed-goes : (s : State) (at : ℕ) (o : Out) (c : Running) → printed s at o ≡ goes c → (o .text .full ≡ false) × (c ≡ record { state = s; at = at; text = o })
+printed-goes s at o c e = go (o .text .full) refl e
+  where
+    go : (f : Bool) → o .text .full ≡ f → cond f (stops 13) (goes (record { state = s; at = at; text = o })) ≡ goes c → (o .text .full ≡ false) × (c ≡ record { state = s; at = at; text = o })
+    go true q e = let z : _≡_ {A = ℕ} 0 1 = cc in absurd (omega arith)
+    go false q e = (q, cc)
+
+-- the call at a running case's place
+abbrev callHere : List ℕ → Running → Call
+callHere file c = callAt file (c .state .rec .n) (c .state .rec .w) (c .at)
+
+record Goes (file : List ℕ) (c d : Running) : Type 0 where
+  accepted : isRefused (step (callHere file c) (c .state) .answer) ≡ false
+  is : d ≡ record { state = step (callHere file c) (c .state) .after; at = endOf file (c .at) (c .state .rec .n) (c .state .rec .w); text = appended (lineOf (step (callHere file c) (c .state) .answer) (step (callHere file c) (c .state) .after)) (c .text) }
+  inside : d .at ≤ length file
+
+one-goes : (file : List ℕ) (c d : Running) → one file c ≡ goes d → Goes file c d
+unfolding one done
+one-goes file c d e = go (accessAt file (c .at) (c .state .rec .n) (c .state .rec .w)) refl e
+  where
+    go : (f : Found) → accessAt file (c .at) (c .state .rec .n) (c .state .rec .w) ≡ f → doneAs file f (c .state) (c .text) ≡ goes d → Goes file c d
+    go (found k from next) q e =
+        let n = c .state .rec .n in
+        let w = c .state .rec .w in
+        let L = access-lies file (c .at) n w (sym q) in
+        let call : Kind → ℕ → Call = λ i j. callOf i n w (numbersAt file j (sizeOf i n w)) in
+        let same : call k from ≡ callHere file c = ap (λ (i : Kind). call i from) (L .kind-is) ∙ ap (call (kindAt file (c .at))) (L .from-is) in
+        let next-is : next ≡ endOf file (c .at) n w = L .next-is ∙ ap (λ (i : ℕ). i + 2 * sizeOf k n w) (L .from-is) ∙ ap (λ (i : Kind). c .at + 1 + 2 * sizeOf i n w) (L .kind-is) in
+        let S = said-goes (step (call k from) (c .state) .answer) (step (call k from) (c .state) .after) next (c .text) d e in
+        let P = printed-goes _ _ _ d (S .is) in
+        let there : Call → ℕ → Running = λ x i. record { state = step x (c .state) .after; at = i; text = appended (lineOf (step x (c .state) .answer) (step x (c .state) .after)) (c .text) } in
+        let at-is : d .at ≡ next = ap (λ (x : Running). x .at) (P .1) in
+        record {
+          accepted = ap (λ (x : Call). isRefused (step x (c .state) .answer)) (sym same) ∙ S .accepted;
+          is = P .1 ∙ ap (λ (x : Call). there x next) same ∙ ap (there (callHere file c)) next-is;
+          inside = omega (arith, L .inside);
+        }
+    go (accesses.refused k) q e = let z : _≡_ {A = ℕ} 0 1 = cc in absurd (omega arith)
+
+-- what the accesses that are left come to, where the case is accepted
+record Comes (file : List ℕ) (m : ℕ) (c : Running) (s : State) (o : Out) : Type 0 where
+  ends : endFrom file (c .state .rec .n) (c .state .rec .w) (c .at) m ≡ length file
+  accepted : AllAccepted (callsFrom file (c .state .rec .n) (c .state .rec .w) (c .at) m) (c .state)
+  state : s ≡ run (callsFrom file (c .state .rec .n) (c .state .rec .w) (c .at) m) (c .state)
+  text : o ≡ appended (linesOf (callsFrom file (c .state .rec .n) (c .state .rec .w) (c .at) m) (c .state)) (c .text)
+  free : o .text .full ≡ false
+
+last-ended : (file : List ℕ) (k : ℕ) (c : Running) (s : State) (o : Out) → c .at ≤ length file → last file k c ≡ ended s o → Comes file 0 c s o
+unfolding callsFrom endFrom run
+last-ended file k c s o h e = go (ltb (c .at) (length file)) refl
+  where
+    end : Out
+    end = appended (endLine (c .state .rec .entries)) (c .text)
+
+    full : (f : Bool) → end .text .full ≡ f → cond f (stopped 13 k) (ended (c .state) end) ≡ ended s o → (s ≡ c .state) × (o ≡ end) × (end .text .full ≡ false)
+    full true q e = let z : _≡_ {A = ℕ} 0 1 = cc in absurd (omega arith)
+    full false q e = (cc, cc, q)
+
+    go : (f : Bool) → ltb (c .at) (length file) ≡ f → Comes file 0 c s o
+    go true q =
+        let u : stopped 12 k ≡ ended s o = sym (last-left file k c (ltb-true (c .at) (length file) q)) ∙ e in
+        let z : _≡_ {A = ℕ} 0 1 = cc in
+        absurd (omega arith)
+    go false q =
+        let l : length file ≤ c .at = ltb-false (c .at) (length file) q in
+        let F = full (end .text .full) refl (sym (last-printed file k c l) ∙ e) in
+        record { ends = omega arith; accepted = tt; state = F .0; text = F .1; free = ap (λ (x : Out). x .text .full) (F .1) ∙ F .2 }
+
+-- n and w stay
+same-sizes : (x : Call) (s : State) → isRefused (step x s .answer) ≡ false → (step x s .after .rec .n ≡ s .rec .n) × (step x s .after .rec .w ≡ s .rec .w)
+unfolding SuccessLeaves
+same-sizes x s e = let E = success-leaves x s e in (E .n, E .w)
+
+rest-ended : (file : List ℕ) (m k : ℕ) (c : Running) (s : State) (o : Out) → c .at ≤ length file → rest file m k c ≡ ended s o → Comes file m c s o
+unfolding rest callsFrom endFrom run
+rest-ended file zero k c s o h e = last-ended file k c s o h e
+rest-ended file (suc m) k c s o h e = go (λ d. rest-ended file m (suc k) d s o) (one file c) refl e
+  where
+    go : ((d : Running) → d .at ≤ length file → rest file m (suc k) d ≡ ended s o → Comes file m d s o) → (x : Next) → one file c ≡ x → after x k (rest file m (suc k)) ≡ ended s o → Comes file (suc m) c s o
+    go again (goes d) q e =
+        let n = c .state .rec .n in
+        let w = c .state .rec .w in
+        let G = one-goes file c d q in
+        let t = step (callHere file c) (c .state) .after in
+        let line = lineOf (step (callHere file c) (c .state) .answer) t in
+        let at′ = endOf file (c .at) n w in
+        let there : Running = record { state = t; at = at′; text = appended line (c .text) } in
+        let C : Comes file m there s o = subst (λ (x : Running). Comes file m x s o) (G .is) (again d (G .inside) e) in
+        let Z = same-sizes (callHere file c) (c .state) (G .accepted) in
+        let cs = callsFrom file n w at′ m in
+        let same : callsFrom file (t .rec .n) (t .rec .w) at′ m ≡ cs = ap (λ (i : ℕ). callsFrom file i (t .rec .w) at′ m) (Z .0) ∙ ap (λ (i : ℕ). callsFrom file n i at′ m) (Z .1) in
+        let sameEnd : endFrom file (t .rec .n) (t .rec .w) at′ m ≡ endFrom file n w at′ m = ap (λ (i : ℕ). endFrom file i (t .rec .w) at′ m) (Z .0) ∙ ap (λ (i : ℕ). endFrom file n i at′ m) (Z .1) in
+        record {
+          ends = sym sameEnd ∙ C .ends;
+          accepted = (G .accepted, subst (λ (x : List Call). AllAccepted x t) same (C .accepted));
+          state = C .state ∙ ap (λ (x : List Call). run x t) same;
+          text = C .text ∙ ap (λ (x : List Call). appended (linesOf x t) (appended line (c .text))) same ∙ sym (appended-append line (linesOf cs t) (c .text));
+          free = C .free;
+        }
+    go again (stops r) q e = let z : _≡_ {A = ℕ} 0 1 = cc in absurd (omega arith)
+
+-- the case with which the accesses of a file begin
+abbrev start : List ℕ → List ℕ → List ℕ → List ℕ → Running
+start file words list text = record { state = stateIn file words list; at = firstAt file; text = growing text 0 }
+
+record Began (file words list text : List ℕ) (s : State) (o : Out) : Type 0 where
+  begins : Begins (stateIn file words list)
+  inside : firstAt file ≤ length file
+  is : rest file (accessesIn file) 0 (start file words list text) ≡ ended s o
+
+-- sections that are read
+begun : (file words list text : List ℕ) {n w count m at : ℕ} → sections file words .1 ≡ ready n w count m at
+    → rest file m 0 (record { state = record { rec = firstRecord n w count; words = sections file words .0; list = list }; at = at; text = growing text 0 }) ≡ rest file (accessesIn file) 0 (start file words list text)
+begun file words list text {n} {w} {count} {m} {at} q =
+    let ws = sections file words .0 in
+    let R = sections-read file words {ws = ws} {n = n} {w = w} {count = count} {accesses = m} {at = at} (ap (λ (y : Sections). (ws, y)) (sym q)) in
+    let start-is : record { state = record { rec = firstRecord n w count; words = ws; list = list }; at = at; text = growing text 0 } ≡ start file words list text =
+    λ i. record { state = record { rec = record { n = R .n-is i; w = R .w-is i; count = R .count-is i; entries = 0; asserted = 1; checked = 1 }; words = R .words-are i; list = list }; at = R .at-is i; text = growing text 0 } in
+    ap (λ (y : Running). rest file m 0 y) start-is ∙ ap (λ (i : ℕ). rest file i 0 (start file words list text)) (R .accesses-is)
+
+whole-began : (file words list text : List ℕ) (s : State) (o : Out) → whole file words list text ≡ ended s o → Began file words list text s o
+unfolding whole
+whole-began file words list text s o e = go (sections file words .1) refl e
+  where
+    go : (x : Sections) → sections file words .1 ≡ x → afterSections file (sections file words .0) x list text ≡ ended s o → Began file words list text s o
+    go (ready n w count m at) q e =
+        let ws = sections file words .0 in
+        let R = sections-read file words {ws = ws} {n = n} {w = w} {count = count} {accesses = m} {at = at} (ap (λ (y : Sections). (ws, y)) (sym q)) in
+        let state-is : record { rec = firstRecord n w count; words = ws; list = list } ≡ stateIn file words list =
+        λ i. record { rec = record { n = R .n-is i; w = R .w-is i; count = R .count-is i; entries = 0; asserted = 1; checked = 1 }; words = R .words-are i; list = list } in
+        record {
+          begins = subst Begins state-is (sections-begin R list);
+          inside = omega (arith, R .at-is, R .inside);
+          is = sym (begun file words list text q) ∙ e;
+        }
+    go (sections.refused k) q e = let z : _≡_ {A = ℕ} 0 1 = cc in absurd (omega arith)
+
+-- how an accepted case ended
+record Ends (file words list text : List ℕ) (k : ℕ) (r : Record) : Type 0 where
+  state : State
+  text-end : Out
+  is : whole file words list text ≡ ended state text-end
+  size : k ≡ text-end .text .at
+  rec : r ≡ state .rec
+
+case-ends : (file words list text : List ℕ) (k : ℕ) (r : Record) → caseOf file words list text .answer ≡ accepts k r → Ends file words list text k r
+unfolding caseOf
+case-ends file words list text k r e = go (whole file words list text) refl e
+  where
+    go : (x : Ended) → whole file words list text ≡ x → closed words list text x .answer ≡ accepts k r → Ends file words list text k r
+    go (ended s o) q e = record { state = s; text-end = o; is = q; size = cc; rec = cc }
+    go (stopped a b) q e = let z : _≡_ {A = ℕ} 0 1 = cc in absurd (omega arith)
+
+case-left : (file words list text : List ℕ) {s : State} {o : Out} → whole file words list text ≡ ended s o → caseOf file words list text ≡ closed words list text (ended s o)
+unfolding caseOf
+case-left file words list text q = ap (closed words list text) q
+
+-- a text that fitted
+text-fits : (xs l : List ℕ) {o : Out} → o ≡ appended xs (growing l 0) → o .text .full ≡ false → (length xs ≤ length l) × (o ≡ growing (xs ++ drop (length xs) l) (length xs))
+text-fits xs l {o} e f =
+    let q : ltb (length l) (0 + length xs) ≡ false = sym (appended-is-full xs l 0 (omega arith)) ∙ ap (λ (x : Out). x .text .full) (sym e) ∙ f in
+    let h : 0 + length xs ≤ length l = ltb-false (length l) (0 + length xs) q in
+    (omega arith, e ∙ appended-fits xs l 0 h ∙ ap (λ (i : ℕ). growing (xs ++ drop i l) i) (zero-add (length xs)))
+
+pub case-text : CaseText
+unfolding CaseText
+case-text file words list text k r e =
+    let E = case-ends file words list text k r e in
+    let B = whole-began file words list text (E .state) (E .text-end) (E .is) in
+    let C = rest-ended file (accessesIn file) 0 (start file words list text) (E .state) (E .text-end) (B .inside) (B .is) in
+    let xs = linesOf (callsIn file) (stateIn file words list) in
+    let F = text-fits xs text (C .text) (C .free) in
+    let left = case-left file words list text (E .is) in
+    let size-is : k ≡ length xs = E .size ∙ ap (λ (x : Out). x .text .at) (F .1) in
+    record {
+      ends = C .ends;
+      accepted = C .accepted;
+      last = E .rec ∙ ap (λ (x : State). x .rec) (C .state);
+      nodes = ap (λ (x : Case). x .words) left ∙ ap (λ (x : State). x .words) (C .state);
+      entries = ap (λ (x : Case). x .list) left ∙ ap (λ (x : State). x .list) (C .state);
+      size = size-is;
+      fits = omega (arith, F .0, size-is);
+      bytes = ap (λ (x : Case). x .text) left ∙ ap (λ (x : Out). x .buffer) (F .1) ∙ ap (λ (i : ℕ). xs ++ drop i text) (sym size-is);
+    }
+
+pub case-exactly : CaseExactly
+unfolding CaseExactly CaseText Demand3
+case-exactly file words list text k r e a small =
+    let E = case-ends file words list text k r e in
+    let B = whole-began file words list text (E .state) (E .text-end) (E .is) in
+    let P = case-text file words list text k r e in
+    let X = demand3 (stateIn file words list) (B .begins) (callsIn file) a small in
+    let t = run (callsIn file) (stateIn file words list) in
+    let same : value (caseOf file words list text .words) (bitAt a) (r .checked) ≡ value (t .words) (bitAt a) (t .rec .checked) = ap (λ (x : List ℕ). value x (bitAt a) (r .checked)) (P .nodes) ∙ ap (λ (x : Record). value (t .words) (bitAt a) (x .checked)) (P .last) in
+    record {
+      calls = X;
+      checking = (λ z. X .checking .0 (subst T same z), λ z. subst T (sym same) (X .checking .1 z));
+    }
+
+-- the text length that is answered lies in the text buffer
+pub done-fits : (file words list text : List ℕ) (w l b : List ℕ) {r : CaseAnswer} {k : ℕ} {m : memory.Record} → r ≡ answer.Done k m → caseAs r w l b ≡ caseOf file words list text → k ≤ length text
+unfolding CaseText
+done-fits file words list text w l b {k = k} {m = m} e f = case-text file words list text k (recordOf m) (sym (ap (λ (x : Case). x .answer) f) ∙ ap answered e) .fits
+
+-- as does the end of any text that began at byte 0
+pub text-within : (xs l : List ℕ) {b : List ℕ} {t : Text} → out b t ≡ appended xs (growing l 0) → t .at ≤ length l
+text-within xs l {t = t} e = go (ltb (length l) (0 + length xs)) refl
+  where
+    at-is : {k : ℕ} {m : List ℕ} {f : Bool} → appended xs (growing l 0) ≡ out m (record { at = k; full = f }) → t .at ≡ k
+    at-is g = ap (λ (x : Out). x .text .at) (e ∙ g)
+
+    go : (f : Bool) → ltb (length l) (0 + length xs) ≡ f → t .at ≤ length l
+    go true q = let h = at-is (appended-over xs l 0 (omega arith) (ltb-true (length l) (0 + length xs) q)) in omega (arith, h)
+    go false q = let g : 0 + length xs ≤ length l = ltb-false (length l) (0 + length xs) q in let h = at-is (appended-fits xs l 0 g) in omega (arith, h, g)
+
+-- where the case is refused after k, those before it were accepted
+record Stops (file : List ℕ) (m i : ℕ) (c : Running) (k : ℕ) : Type 0 where
+  count : ℕ
+  is : k ≡ i + count
+  few : count ≤ m
+  accepted : AllAccepted (callsFrom file (c .state .rec .n) (c .state .rec .w) (c .at) count) (c .state)
+
+-- none of them
+stops-none : (file : List ℕ) (m i : ℕ) (c : Running) (k : ℕ) → k ≡ i → Stops file m i c k
+unfolding callsFrom
+stops-none file m i c k e = record { count = 0; is = omega arith; few = omega arith; accepted = tt }
+
+last-stopped : (file : List ℕ) (i : ℕ) (c : Running) (r k : ℕ) → last file i c ≡ stopped r k → k ≡ i
+last-stopped file i c r k e = go (ltb (c .at) (length file)) refl
+  where
+    end : Out
+    end = appended (endLine (c .state .rec .entries)) (c .text)
+
+    full : (f : Bool) → cond f (stopped 13 i) (ended (c .state) end) ≡ stopped r k → k ≡ i
+    full true e = cc
+    full false e = let z : _≡_ {A = ℕ} 0 1 = cc in absurd (omega arith)
+
+    go : (f : Bool) → ltb (c .at) (length file) ≡ f → k ≡ i
+    go true q = let u : stopped 12 i ≡ stopped r k = sym (last-left file i c (ltb-true (c .at) (length file) q)) ∙ e in cc
+    go false q = full (end .text .full) (sym (last-printed file i c (ltb-false (c .at) (length file) q)) ∙ e)
+
+rest-stopped : (file : List ℕ) (m i : ℕ) (c : Running) (r k : ℕ) → rest file m i c ≡ stopped r k → Stops file m i c k
+unfolding rest callsFrom
+rest-stopped file zero i c r k e = stops-none file 0 i c k (last-stopped file i c r k e)
+rest-stopped file (suc m) i c r k e = go (λ d. rest-stopped file m (suc i) d r k) (one file c) refl e
+  where
+    go : ((d : Running) → rest file m (suc i) d ≡ stopped r k → Stops file m (suc i) d k) → (x : Next) → one file c ≡ x → after x i (rest file m (suc i)) ≡ stopped r k → Stops file (suc m) i c k
+    go again (goes d) q e =
+        let n = c .state .rec .n in
+        let w = c .state .rec .w in
+        let G = one-goes file c d q in
+        let t = step (callHere file c) (c .state) .after in
+        let at′ = endOf file (c .at) n w in
+        let there : Running = record { state = t; at = at′; text = appended (lineOf (step (callHere file c) (c .state) .answer) t) (c .text) } in
+        let S : Stops file m (suc i) there k = subst (λ (x : Running). Stops file m (suc i) x k) (G .is) (again d e) in
+        let Z = same-sizes (callHere file c) (c .state) (G .accepted) in
+        let j = S .count in
+        let same : callsFrom file (t .rec .n) (t .rec .w) at′ j ≡ callsFrom file n w at′ j = ap (λ (x : ℕ). callsFrom file x (t .rec .w) at′ j) (Z .0) ∙ ap (λ (x : ℕ). callsFrom file n x at′ j) (Z .1) in
+        record {
+          count = suc j;
+          is = omega (arith, S .is);
+          few = omega (arith, S .few);
+          accepted = (G .accepted, subst (λ (x : List Call). AllAccepted x t) same (S .accepted));
+        }
+    go again (stops a) q e = let u : k ≡ i = cc in stops-none file (suc m) i c k u
+
+-- in the sections none was done
+whole-stopped : (file words list text : List ℕ) (r k : ℕ) → whole file words list text ≡ stopped r k → Stops file (accessesIn file) 0 (start file words list text) k
+unfolding whole
+whole-stopped file words list text r k e = go (sections file words .1) refl e
+  where
+    go : (x : Sections) → sections file words .1 ≡ x → afterSections file (sections file words .0) x list text ≡ stopped r k → Stops file (accessesIn file) 0 (start file words list text) k
+    go (ready n w count m at) q e = rest-stopped file (accessesIn file) 0 (start file words list text) r k (sym (begun file words list text q) ∙ e)
+    go (sections.refused a) q e = let u : k ≡ 0 = cc in stops-none file (accessesIn file) 0 (start file words list text) k u
+
+pub case-refused-after : CaseRefused
+unfolding CaseRefused caseOf
+case-refused-after file words list text number k e = go (whole file words list text) refl e
+  where
+    go : (x : Ended) → whole file words list text ≡ x → closed words list text x .answer ≡ refuses number k → RefusedAfter file words list text k (closed words list text (whole file words list text))
+    go (ended s o) q e = let z : _≡_ {A = ℕ} 0 1 = cc in absurd (omega arith)
+    go (stopped a b) q e =
+        let u : k ≡ b = cc in
+        let S = whole-stopped file words list text a b q in
+        let v : S .count ≡ k = omega (arith, S .is) in
+        rw q
+        (record {
+          nodes = refl;
+          entries = refl;
+          bytes = refl;
+          few = omega (arith, S .few, v);
+          accepted = subst (λ (i : ℕ). AllAccepted (callsFrom file (getD file 0 0) (getD file 1 0) (firstAt file) i) (stateIn file words list)) v (S .accepted);
+        })

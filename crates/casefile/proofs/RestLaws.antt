@@ -1,0 +1,156 @@
+-- The accesses one after the other, and the end.
+use mathlib.Core.Path.{_≡_, sym, ap, subst, _∙_}
+use mathlib.Core.Bool.{Bool, true, false, cond, false≢true}
+use mathlib.Core.List.{List}
+use Prim.Native.Nat.{ℕ, suc, _+_, _-_, _<_, _≤_}
+use native.Mathlib.Nat.{sub-zero}
+use native.Mathlib.Numerals.{add-one}
+use native.Mathlib.Omega.{arith}
+use lib.ListN.{length, replicate}
+use borrow.Author.Tests.{lt-ltb, le-ltb}
+use Rattle.text.specs.declared.Text.{Text}
+use Rattle.text.specs.Text.{out, growing, appended}
+use Rattle.lines.specs.Lines.{endLine}
+use Rattle.memory.specs.declared.Record.{Record}
+use Rattle.memory.specs.Contract.{stateOf}
+use Rattle.reading.specs.declared.Kind.{Kind}
+use Rattle.reading.specs.declared.Kind.the-variants as kind
+use Rattle.reading.specs.declared.Access.{Access}
+use Rattle.reading.specs.declared.Access.the-variants as access
+use Rattle.reading.specs.Bytes.{numbersAt}
+use Rattle.reading.specs.Kinds.{isKnown, sizeOf}
+use Rattle.reading.specs.Accesses.{Found, foundOf, accessAt}
+use Rattle.reading.specs.declared.Loaded.{Loaded}
+use Rattle.reading.specs.declared.Loaded.the-variants as loaded
+use Rattle.reading.specs.Sections.{Sections, sectionsOf, firstRecord, sections}
+use Rattle.reading.proofs.SectionLaws.{sections-ready, sections-valid}
+use Rattle.conditions.proofs.Promises.{zeros-sound}
+use Rattle.casefile.specs.declared.Run.{Run}
+use Rattle.casefile.specs.declared.Went.{Went}
+use Rattle.casefile.specs.declared.Went.the-variants as went
+use Rattle.casefile.specs.declared.CaseAnswer.{CaseAnswer}
+use Rattle.casefile.specs.declared.CaseAnswer.the-variants as answer
+use Rattle.casefile.specs.Case.{Running, stops, callOf, done, doneAs, one, Ended, ended, stopped, lastPrinted, last, after, rest, afterSections, whole, refuses, zeroed, closed, caseOf}
+use Rattle.casefile.specs.Contract.{runningOf, nextOf, endedOf, caseAs, Ready, ReadyNext, Came}
+
+-- the last line: 12 comes before it
+module _ (file : List ℕ) (k : ℕ) (c : Running) where
+  pub last-left : c .at < length file → last file k c ≡ stopped 12 k
+  unfolding last
+  last-left h = rw (lt-ltb (c .at) (length file) h)
+
+  pub last-printed : length file ≤ c .at → last file k c ≡ lastPrinted (c .state) k (appended (endLine (c .state .rec .entries)) (c .text))
+  unfolding last
+  last-printed h = rw (le-ltb (c .at) (length file) h)
+
+module _ (file : List ℕ) (k : ℕ) (c : Run) (w l b : List ℕ) where
+  pub bytes-left : c .at < length file → stopped 12 k ≡ last file k (runningOf c w l b)
+  bytes-left h = sym (last-left file k (runningOf c w l b) h)
+
+  module _ (h : length file ≤ c .at) {b′ : List ℕ} {t : Text} (p : out b′ t ≡ appended (endLine (c .memory .entries)) (out b (c .text))) where
+    last-is : last file k (runningOf c w l b) ≡ lastPrinted (stateOf (c .memory) w l) k (out b′ t)
+    last-is = last-printed file k (runningOf c w l b) h ∙ ap (lastPrinted (stateOf (c .memory) w l) k) (sym p)
+
+    pub end-over : t .full ≡ true → endedOf (answer.Refused 13 k) w l b′ ≡ last file k (runningOf c w l b)
+    end-over e = sym (last-is ∙ ap (λ (f : Bool). cond f (stopped 13 k) (ended (stateOf (c .memory) w l) (out b′ t))) e)
+
+    pub end-fits : t .full ≡ false → endedOf (answer.Done (t .at) (c .memory)) w l b′ ≡ last file k (runningOf c w l b)
+    end-fits e = sym (last-is ∙ ap (λ (f : Bool). cond f (stopped 13 k) (ended (stateOf (c .memory) w l) (out b′ (record { at = t .at; full = f })))) e)
+
+-- one access of those that are left
+module _ (file : List ℕ) (n i : ℕ) (h : i < n) (c : Running) (w l b : List ℕ) (r : Went) (f : nextOf r w l b ≡ one file c) where
+  rest-next : rest file (n - i) i c ≡ after (nextOf r w l b) i (rest file (n - (i + 1)) (i + 1))
+  unfolding rest
+  rest-next = let e : n - i ≡ suc (n - (i + 1)) = omega arith in rw (e, f, add-one i)
+
+  pub rest-goes : {c′ : Run} → r ≡ went.On c′ → rest file (n - (i + 1)) (i + 1) (runningOf c′ w l b) ≡ rest file (n - i) i c
+  rest-goes e = sym (rest-next ∙ ap (λ (x : Went). after (nextOf x w l b) i (rest file (n - (i + 1)) (i + 1))) e)
+
+  pub rest-stops : {k : ℕ} → r ≡ went.Refused k → stopped k i ≡ rest file (n - i) i c
+  rest-stops e = sym (rest-next ∙ ap (λ (x : Went). after (nextOf x w l b) i (rest file (n - (i + 1)) (i + 1))) e)
+
+-- none is left
+pub rest-none : (file : List ℕ) (n i : ℕ) (c : Running) → n ≤ i → rest file (n - i) i c ≡ last file i c
+unfolding rest
+rest-none file n i c h = let e : n - i ≡ 0 = omega arith in rw e
+
+-- the access at a place
+pub unknown-not : {k : Kind} → k ≡ kind.Unknown → isKnown k ≡ true → ⊥
+unknown-not e p = false≢true (sym (ap isKnown e) ∙ p)
+
+module _ (file : List ℕ) (c : Running) {f : Access} where
+  pub one-missing : {k : ℕ} → f ≡ access.Refused k → foundOf f ≡ accessAt file (c .at) (c .state .rec .n) (c .state .rec .w) → stops k ≡ one file c
+  unfolding one
+  one-missing e g = ap (λ (x : Found). doneAs file x (c .state) (c .text)) (sym (ap foundOf e) ∙ g)
+
+  one-here : {k : Kind} {from next : ℕ} → f ≡ access.Here k from next → foundOf f ≡ accessAt file (c .at) (c .state .rec .n) (c .state .rec .w)
+      → done (callOf k (c .state .rec .n) (c .state .rec .w) (numbersAt file from (sizeOf k (c .state .rec .n) (c .state .rec .w)))) (c .state) next (c .text) ≡ one file c
+  unfolding one
+  one-here e g = ap (λ (x : Found). doneAs file x (c .state) (c .text)) (sym (ap foundOf e) ∙ g)
+
+  pub came-here : {k : Kind} {from next : ℕ} → f ≡ access.Here k from next → foundOf f ≡ accessAt file (c .at) (c .state .rec .n) (c .state .rec .w)
+      → (size : ℕ) → size ≡ sizeOf k (c .state .rec .n) (c .state .rec .w) → {r : Went} {w l b table : List ℕ}
+      → Came r w l b table (done (callOf k (c .state .rec .n) (c .state .rec .w) (numbersAt file from size)) (c .state) next (c .text)) → Came r w l b table (one file c)
+  came-here {k} {from} {next} e g size z {r} {w} {l} {b} {table} C =
+      subst (Came r w l b table) (ap (λ (i : ℕ). done (callOf k (c .state .rec .n) (c .state .rec .w) (numbersAt file from i)) (c .state) next (c .text)) z ∙ one-here e g) C
+
+-- what the loop over the accesses keeps: i are done, and the rest from here is the rest from the start
+pub record Done (file : List ℕ) (n : ℕ) (x : Ended) (w l table b : List ℕ) (c : Run) (i : ℕ) : Type 0 where
+  pub most : i ≤ n
+  pub ready : Ready (c .memory) w l table
+  pub is : rest file (n - i) i (runningOf c w l b) ≡ x
+
+pub done-none : (file : List ℕ) (n : ℕ) (c : Run) (w l table b : List ℕ) → Ready (c .memory) w l table → Done file n (rest file n 0 (runningOf c w l b)) w l table b c 0
+done-none file n c w l table b R = record { most = omega arith; ready = R; is = ap (λ (k : ℕ). rest file k 0 (runningOf c w l b)) (sub-zero n) }
+
+module _ {file : List ℕ} {n : ℕ} {x : Ended} {w l table b : List ℕ} {c : Run} {i : ℕ} (D : Done file n x w l table b c i) where
+  pub done-more : i < n → {r : Went} {w′ l′ table′ b′ : List ℕ} {c′ : Run} → r ≡ went.On c′ → Came r w′ l′ b′ table′ (one file (runningOf c w l b)) → Done file n x w′ l′ table′ b′ c′ (i + 1)
+  done-more h {r} {w′} {l′} {table′} {b′} e C =
+      record {
+        most = omega arith;
+        ready = subst (λ (y : Went). ReadyNext y w′ l′ table′) e (C .ready);
+        is = rest-goes file n i h (runningOf c w l b) w′ l′ b′ r (C .is) e ∙ D .is;
+      }
+
+  pub done-stop : i < n → {r : Went} {w′ l′ table′ b′ : List ℕ} {k : ℕ} → r ≡ went.Refused k → Came r w′ l′ b′ table′ (one file (runningOf c w l b)) → stopped k i ≡ x
+  done-stop h {r} {w′} {l′} {b′ = b′} e C = rest-stops file n i h (runningOf c w l b) w′ l′ b′ r (C .is) e ∙ D .is
+
+  pub done-all : n ≤ i → {y : Ended} → y ≡ last file i (runningOf c w l b) → y ≡ x
+  done-all h f = f ∙ sym (rest-none file n i (runningOf c w l b) h) ∙ D .is
+
+-- the sections, and then the accesses
+module _ (file words list text ws : List ℕ) (r : Loaded) (f : (ws, sectionsOf r) ≡ sections file words) where
+  whole-is : whole file words list text ≡ afterSections file ws (sectionsOf r) list text
+  unfolding whole
+  whole-is = ap (λ (x : List ℕ × Sections). afterSections file (x .0) (x .1) list text) (sym f)
+
+  pub whole-stops : {k : ℕ} → r ≡ loaded.Refused k → stopped k 0 ≡ whole file words list text
+  whole-stops e = sym (whole-is ∙ ap (λ (x : Loaded). afterSections file ws (sectionsOf x) list text) e)
+
+  pub whole-goes : {n w count m at : ℕ} → r ≡ loaded.Ready n w count m at → {y : Ended} → y ≡ rest file m 0 (record { state = record { rec = firstRecord n w count; words = ws; list = list }; at = at; text = growing text 0 })
+      → y ≡ whole file words list text
+  whole-goes e g = g ∙ sym (whole-is ∙ ap (λ (x : Loaded). afterSections file ws (sectionsOf x) list text) e)
+
+-- a case with which nothing is done yet
+pub first-ready : (file words list ws : List ℕ) (r : Loaded) {n w count m at : ℕ} → r ≡ loaded.Ready n w count m at → (ws, sectionsOf r) ≡ sections file words
+    → Ready (record { n = n; w = w; count = count; entries = 0; asserted = 1; checked = 1 }) ws list (replicate 8192 0)
+first-ready file words list ws r e f =
+    let S = sections-ready file words e f in
+    record { valid = sections-valid S list; sound = zeros-sound _ 8192 (S .standard) }
+
+-- accepted, and refused
+module _ (file words list text w l b : List ℕ) (r : CaseAnswer) (f : endedOf r w l b ≡ whole file words list text) where
+  case-is : caseOf file words list text ≡ closed words list text (endedOf r w l b)
+  unfolding caseOf
+  case-is = ap (closed words list text) (sym f)
+
+  pub case-done : {k : ℕ} {m : Record} → r ≡ answer.Done k m → caseAs (answer.Done k m) w l b ≡ caseOf file words list text
+  case-done e = sym (case-is ∙ ap (λ (x : CaseAnswer). closed words list text (endedOf x w l b)) e)
+
+  pub case-refused : {k i : ℕ} {w′ l′ b′ : List ℕ} → r ≡ answer.Refused k i → length w ≡ length words → length l ≡ length list → length b ≡ length text → w′ ≡ zeroed w → l′ ≡ zeroed l → b′ ≡ zeroed b
+      → caseAs (answer.Refused k i) w′ l′ b′ ≡ caseOf file words list text
+  case-refused {k} {i} {w′} {l′} {b′} e p q s x y z =
+      let X : w′ ≡ zeroed words = x ∙ ap (λ (n : ℕ). replicate n 0) p in
+      let Y : l′ ≡ zeroed list = y ∙ ap (λ (n : ℕ). replicate n 0) q in
+      let Z : b′ ≡ zeroed text = z ∙ ap (λ (n : ℕ). replicate n 0) s in
+      (λ j. record { answer = refuses k i; words = X j; list = Y j; text = Z j }) ∙ sym (case-is ∙ ap (λ (x : CaseAnswer). closed words list text (endedOf x w l b)) e)

@@ -1,0 +1,50 @@
+use Rattle.casefile.proofs.ZeroLaws.{zerosTo, zeros-none, zeros-more, zeros-all}
+use denote.Ref.{now}
+use lib.ListN.{length, length-set}
+use Prim.Native.Nat.{_-_, _≤_}
+use mathlib.Core.Path.{_≡_, refl, _∙_}
+use native.Mathlib.Omega.{arith}
+use borrow.Author.Needs.{needs}
+use Rattle.casefile.proofs.zeros.zero_bytes.Statement.{statement}
+use Rattle.casefile.proofs.zeros.zero_bytes.Tie as tie
+
+abbrev Inv-loop : tie.InvT-loop
+Inv-loop to₀ i₀ to i = (i ≤ length to₀) × (length to ≡ length to₀) × (to ≡ zerosTo i to₀)
+
+abbrev μ-loop : tie.MeasureT-loop
+μ-loop to₀ i₀ to i = length to₀ - i
+
+loop-holds : tie.Need-loop-holds Inv-loop μ-loop
+loop-holds c = (search needs, refl, zeros-none (now (c .args .to)))
+
+slice-write-to : tie.Need-slice-write-to Inv-loop μ-loop
+slice-write-to c = search needs
+
+add-i : tie.Need-add-i Inv-loop μ-loop
+add-i c = search needs
+
+loop-less : tie.Need-loop-less Inv-loop μ-loop
+loop-less c = search needs
+
+loop-again : tie.Need-loop-again Inv-loop μ-loop
+loop-again c = (search needs, simp length-set (omega arith), zeros-more (c .before .loop .i) (now (c .before .before .args .to)) (omega arith) (c .before .loop .inv .2))
+
+same-length : tie.Need-same-length Inv-loop μ-loop
+same-length c = search needs
+
+returns : tie.Need-returns Inv-loop μ-loop
+returns c = c .before .loop .inv .2 ∙ zeros-all (c .before .loop .i) (now (c .before .before .args .to)) (omega arith)
+
+pub zero-bytes-spec : {M : Type 1} → statement M
+zero-bytes-spec =
+    tie.close
+    (tie.spec
+    Inv-loop
+    μ-loop
+    loop-holds
+    slice-write-to
+    add-i
+    loop-less
+    loop-again
+    same-length
+    returns)

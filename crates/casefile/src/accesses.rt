@@ -1,0 +1,161 @@
+// The sections, the accesses one after the other, and the last line.
+ghost use mathlib.Core.Path.{_≡_};
+ghost use mathlib.Core.Bool.{true};
+ghost use Prim.Native.Nat.{_+_, _*_, _≤_};
+ghost use lib.ListN.{length};
+ghost use Rattle.text.specs.Text.{out};
+ghost use Rattle.reading.specs.Bytes.{numbersAt};
+ghost use Rattle.reading.specs.Kinds.{isKnown, sizeOf};
+ghost use Rattle.memory.specs.Contract.{stateOf};
+ghost use Rattle.casefile.specs.Case.{callOf, done, one, rest, whole};
+ghost use Rattle.casefile.specs.Contract.{runningOf, endedOf, Ready, Came, Finishes};
+use super::calls;
+use crate::CaseAnswer;
+use crate::Run;
+use crate::Went;
+use conditions::Table;
+use memory::Record;
+use reading::Access;
+use reading::Kind;
+use reading::Loaded;
+use text::Text;
+
+// An access whose nodes stand in the file from a byte on; the words for them are its own.
+fn read_access(
+    file: &[u8],
+    from: usize,
+    kind: Kind,
+    words: &mut [u32],
+    list: &mut [u32],
+    table: &mut Table,
+    buf: &mut [u8],
+    c: Run,
+    ops: &mut [u32],
+) -> Went
+    requires { ⌜ Ready (c .memory) (now words) (now list) (now table) × (isKnown kind ≡ true) × (length (now ops) ≡ sizeOf kind (c .memory .n) (c .memory .w)) × (from + 2 * length (now ops) ≤ length (now file)) ⌝ }
+    ensures { λ r. ⌜ Came r (now (words .exit)) (now (list .exit)) (now (buf .exit)) (now (table .exit)) (done (callOf kind (c .memory .n) (c .memory .w) (numbersAt (now (file .entry)) from (length (now (ops .entry))))) (stateOf (c .memory) (now (words .entry)) (now (list .entry))) (c .at) (out (now (buf .entry)) (c .text))) ⌝ }
+{
+    reading::read_numbers(file, from, ops);
+    calls::do_access(kind, words, list, table, buf, c, ops)
+}
+
+// The access at the case's place.
+fn do_one(
+    file: &[u8],
+    words: &mut [u32],
+    list: &mut [u32],
+    table: &mut Table,
+    buf: &mut [u8],
+    c: Run,
+) -> Went
+    requires { ⌜ Ready (c .memory) (now words) (now list) (now table) ⌝ }
+    ensures { λ r. ⌜ Came r (now (words .exit)) (now (list .exit)) (now (buf .exit)) (now (table .exit)) (one (now (file .entry)) (runningOf c (now (words .entry)) (now (list .entry)) (now (buf .entry)))) ⌝ }
+{
+    let memory = c.memory;
+    let text = c.text;
+    let found = reading::access_at(file, c.at, memory.n, memory.w);
+    match found {
+        Access::Here { kind, from, next } => {
+            let size = reading::operands(kind, memory.n, memory.w);
+            let here = Run {
+                memory,
+                text,
+                at: next,
+            };
+            let mut ops: [u32; 50] = [0; 50];
+            read_access(
+                file,
+                from,
+                kind,
+                words,
+                list,
+                table,
+                buf,
+                here,
+                &mut ops[..size],
+            )
+        }
+        Access::Refused(k) => Went::Refused(k),
+    }
+}
+
+// The last line, unless bytes are left.
+fn finish(file: &[u8], buf: &mut [u8], c: Run, after: u32) -> CaseAnswer
+    ensures { λ r. ⌜ Finishes r (now (buf .exit)) (now (file .entry)) after c (now (buf .entry)) ⌝ }
+{
+    let memory = c.memory;
+    if c.at < file.len() {
+        return CaseAnswer::Refused { number: 12, after };
+    }
+    let t = lines::put_end(buf, c.text, memory.entries);
+    if t.full {
+        CaseAnswer::Refused { number: 13, after }
+    } else {
+        CaseAnswer::Done {
+            length: t.at,
+            memory,
+        }
+    }
+}
+
+// The accesses one after the other, and the last line.
+fn do_all(
+    file: &[u8],
+    words: &mut [u32],
+    list: &mut [u32],
+    table: &mut Table,
+    buf: &mut [u8],
+    c: Run,
+    accesses: u32,
+) -> CaseAnswer
+    requires { ⌜ Ready (c .memory) (now words) (now list) (now table) ⌝ }
+    ensures { λ r. ⌜ endedOf r (now (words .exit)) (now (list .exit)) (now (buf .exit)) ≡ rest (now (file .entry)) accesses 0 (runningOf c (now (words .entry)) (now (list .entry)) (now (buf .entry))) ⌝ }
+{
+    let mut c = c;
+    let mut i: u32 = 0;
+    while i < accesses {
+        let r = do_one(file, words, list, table, buf, c);
+        match r {
+            Went::On(next) => {
+                c = next;
+                i += 1;
+            }
+            Went::Refused(number) => {
+                return CaseAnswer::Refused { number, after: i };
+            }
+        }
+    }
+    finish(file, buf, c, i)
+}
+
+// The sections, and the accesses with one computed table.
+pub fn whole(file: &[u8], words: &mut [u32], list: &mut [u32], buf: &mut [u8]) -> CaseAnswer
+    ensures { λ r. ⌜ endedOf r (now (words .exit)) (now (list .exit)) (now (buf .exit)) ≡ whole (now (file .entry)) (now (words .entry)) (now (list .entry)) (now (buf .entry)) ⌝ }
+{
+    let loaded = reading::load_sections(file, words);
+    match loaded {
+        Loaded::Ready {
+            n,
+            w,
+            count,
+            accesses,
+            at,
+        } => {
+            let c = Run {
+                memory: Record {
+                    n,
+                    w,
+                    count,
+                    entries: 0,
+                    asserted: 1,
+                    checked: 1,
+                },
+                text: Text { at: 0, full: false },
+                at,
+            };
+            let mut table: Table = [0; 8192];
+            do_all(file, words, list, &mut table, buf, c, accesses)
+        }
+        Loaded::Refused(number) => CaseAnswer::Refused { number, after: 0 },
+    }
+}

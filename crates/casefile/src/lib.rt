@@ -1,0 +1,46 @@
+// The run of a case file: one call reads its sections and accesses, does and prints them in turn.
+ghost use mathlib.Core.Path.{_≡_};
+ghost use Rattle.casefile.specs.Case.{caseOf};
+ghost use Rattle.casefile.specs.Contract.{caseAs};
+
+mod accesses;
+mod calls;
+mod zeros;
+
+use memory::Record;
+use text::Text;
+
+// A case between two accesses: the memory, the text so far, and the byte with which the next access begins.
+pub struct Run {
+    pub memory: Record,
+    pub text: Text,
+    pub at: usize,
+}
+
+// After an access the case goes on, or is refused by this number.
+pub enum Went {
+    On(Run),
+    Refused(u32),
+}
+
+// The text length and the last record; or a refusal's number, and how many accesses were printed before.
+pub enum CaseAnswer {
+    Done { length: usize, memory: Record },
+    Refused { number: u32, after: u32 },
+}
+
+// A case: what a refused one leaves is zeros.
+pub fn run_case(case: &[u8], words: &mut [u32], list: &mut [u32], text: &mut [u8]) -> CaseAnswer
+    ensures { λ r. ⌜ caseAs r (now (words .exit)) (now (list .exit)) (now (text .exit)) ≡ caseOf (now (case .entry)) (now (words .entry)) (now (list .entry)) (now (text .entry)) ⌝ }
+{
+    let r = accesses::whole(case, words, list, text);
+    match r {
+        CaseAnswer::Done { length, memory } => CaseAnswer::Done { length, memory },
+        CaseAnswer::Refused { number, after } => {
+            zeros::zero_words(words);
+            zeros::zero_words(list);
+            zeros::zero_bytes(text);
+            CaseAnswer::Refused { number, after }
+        }
+    }
+}
