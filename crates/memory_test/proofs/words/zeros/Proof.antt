@@ -1,0 +1,34 @@
+use mathlib.Core.Path.{_≡_}
+use Prim.Native.Nat.{_-_}
+use borrow.Author.Needs.{needs}
+use lib.ListN.{length}
+use Rattle.memory_test.proofs.words.zeros.Statement.{statement}
+use Rattle.memory_test.proofs.words.zeros.Tie as tie
+
+abbrev Inv-loop : tie.InvT-loop
+Inv-loop a from to r₀ i₀ r i = Unit {0}
+
+abbrev μ-loop : tie.MeasureT-loop
+μ-loop a from to r₀ i₀ r i = to - i
+
+loop-holds : tie.Need-loop-holds Inv-loop μ-loop
+loop-holds c = search needs
+
+at-requires : tie.Need-at-requires Inv-loop μ-loop
+at-requires c κs = search needs
+
+add-i : tie.Need-add-i Inv-loop μ-loop
+add-i c = search needs
+
+loop-less : tie.Need-loop-less Inv-loop μ-loop
+loop-less c = search needs
+
+loop-again : tie.Need-loop-again Inv-loop μ-loop
+loop-again c = search needs
+
+returns : tie.Need-returns Inv-loop μ-loop
+returns c = search needs
+
+pub zeros-spec : {M : Type 1} → statement M
+zeros-spec =
+    tie.close (tie.spec Inv-loop μ-loop loop-holds at-requires add-i loop-less loop-again returns)
