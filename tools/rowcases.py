@@ -126,6 +126,10 @@ WRONG_NODES = [
     ("same-variable", [(8, 0, 1), (8, 2, 1)], "a variable equal to the low child's"),
     ("repeated", [(8, 0, 1), (8, 0, 1)], "the same three words again, at once"),
     ("repeated-later", [(8, 0, 1), (8, 1, 0), (9, 0, 1), (8, 0, 1)], "the same three words again"),
+    ("repeated-many", [(v, 0, 1) for v in range(63, 7, -1)] + [(v, 1, 0) for v in range(63, 7, -1)] + [(40, 0, 1)],
+     "the same three words again, in a store of more than 64 nodes"),
+    ("repeated-far", [(v, 0, 1) for v in range(63, 7, -1)] + [(v, 1, 0) for v in range(63, 7, -1)] + [(63, 0, 1)],
+     "the first node again, as the last of more than 64"),
 ]
 
 
