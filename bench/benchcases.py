@@ -15,6 +15,7 @@ sys.path.insert(0, build.TOOLS)
 import randomcases  # noqa: E402
 from casefile import CaseFile, ONE, X, ZERO, number_bits  # noqa: E402
 from derivedcases import OneAssignment, many_variables  # noqa: E402
+from limitcases import wide_symbolic  # noqa: E402
 from randomcases import Random  # noqa: E402
 from reference import LIST_WORDS, READ  # noqa: E402
 
@@ -260,12 +261,7 @@ def dense_benches(maker):
     yield maker.bench(kind, "dense-enables", case,
                       "writes with dense conditions of 11 variables until the store is nearly full",
                       until_full=True)
-    case = CaseFile(8, 16)
-    address = [case.bit(8 + i) for i in range(8)]
-    case.write(ONE, address, number_bits(0xA5C3, 16))
-    case.read(ONE, address)
-    case.assert_(1, address, number_bits(0xA5C3, 16))
-    case.check(1, address, number_bits(0xA5C3, 16))
+    case, address = wide_symbolic()
     for number in range(40):
         case.write(ONE, number_bits(number, 8), number_bits(number, 16))
         case.read(ONE, address)

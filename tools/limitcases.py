@@ -18,13 +18,19 @@ def limits():
     yield from text_limits()
 
 
-def wide_limits():
+def wide_symbolic():
+    """n=8, w=16: a write, a read, an assert and a check at an address of 8 variables; and that address."""
     case = CaseFile(8, 16)
     address = [case.bit(8 + i) for i in range(8)]
     case.write(ONE, address, number_bits(0xA5C3, 16))
     case.read(ONE, address)
     case.assert_(1, address, number_bits(0xA5C3, 16))
     case.check(1, address, number_bits(0xA5C3, 16))
+    return case, address
+
+
+def wide_limits():
+    case, _ = wide_symbolic()
     yield through_memcase("limit-wide-symbolic", case.bytes(), "n=8, w=16, a symbolic address of 8 variables")
     case = CaseFile(8, 16)
     for location in (0, 1, 128, 255):
