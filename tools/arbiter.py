@@ -1,0 +1,425 @@
+#!/usr/bin/env python3
+"""Run two simulators and `memcase` on a folder of case files, and say where they part.
+
+    python3 tools/arbiter.py [options] FOLDER 'COMMAND 1' 'COMMAND 2'
+
+Cases are the files of FOLDER and of the folders in it that are named `.case`, and those
+named `.txt`, which are texts of casetext.py and encoded first.  A command gets a case on
+its standard input and writes the case's text to its standard output.  It is split into
+words as a shell does it and run without a shell, in the folder where the arbiter is run.
+
+    agreed    standard output is byte for byte what `memcase` prints, and the status 0
+    differs   it is not, with status 0; or it is longer than any text of `memcase`
+    hung      the run had not ended, or its output was still open, after S seconds
+    crashed   it ended with another status or by a signal, whatever it wrote
+
+Each run has a process group of its own, which is killed when the run is over.  A case is
+judged by `memcase` alone: where it hangs or crashes itself there is no verdict, and
+nothing is counted.
+
+A row is printed for each case on which not all agree, and below it the first line that
+differs; then the cases of each verdict are counted, and those are named in which both
+simulators have the same wrong line first.  The status is 0 where all agreed, 1 where a
+simulator did not, 2 where `memcase` failed or the arbiter cannot run what it is given.
+"""
+
+import argparse
+import io
+import itertools
+import math
+import os
+import selectors
+import shlex
+import shutil
+import signal
+import subprocess
+import sys
+import tempfile
+import time
+from collections import Counter, namedtuple
+from concurrent.futures import ThreadPoolExecutor
+
+import casetext
+from reference import TEXT_BYTES
+from rowcases import ROOT
+
+VERDICTS = AGREED, DIFFERS, HUNG, CRASHED = "agreed", "differs", "hung", "crashed"
+NO_VERDICT = "-"
+
+MEMCASE = os.path.join(ROOT, "target", "bin", "memcase")
+JUDGE = "memcase"
+
+READ_BYTES = 65536
+KEPT_ERROR_BYTES = 4096
+POLL_SECONDS = 0.005
+SHOWN_BYTES = 72
+SHOWN_BEFORE = 24
+
+# A case file: its name, which is its path in the folder, and its bytes.
+Case = namedtuple("Case", "name data")
+
+# What a run wrote, at most one byte more than the longest text; HUNG, CRASHED or None;
+# and how it failed, in words.
+Run = namedtuple("Run", "out failure how")
+
+# The first line in which two texts differ: its number from 1 up, and the line in each
+# with its newline, None where the text has ended before it.
+Difference = namedtuple("Difference", "number right found")
+
+# A case's outcome: the verdict on each simulator, NO_VERDICT where `memcase` failed; what
+# is said below the row; and whether both simulators differ in the same way.
+Outcome = namedtuple("Outcome", "name verdicts details alike")
+
+
+class Misuse(Exception):
+    """The arbiter cannot run what it is given, with the reason."""
+
+
+# Runs
+
+def has_ended(process):
+    """Whether the process has ended; it is not collected, so its group's number stays taken."""
+    return os.waitid(os.P_PID, process.pid, os.WEXITED | os.WNOHANG | os.WNOWAIT) is not None
+
+
+def follow(process, deadline):
+    """Read what the process writes until the run is over; its output, whether that is
+    closed, and the end of its standard error."""
+    out, errors, closed = bytearray(), b"", False
+    with selectors.DefaultSelector() as selector:
+        selector.register(process.stdout, selectors.EVENT_READ)
+        selector.register(process.stderr, selectors.EVENT_READ)
+        while len(out) <= TEXT_BYTES and not (closed and has_ended(process)):
+            left = deadline - time.monotonic()
+            if left <= 0:
+                break
+            for key, _ in selector.select(min(left, POLL_SECONDS) if closed else left):
+                data = os.read(key.fd, READ_BYTES)
+                if not data:
+                    selector.unregister(key.fileobj)
+                    closed = closed or key.fileobj is process.stdout
+                elif key.fileobj is process.stdout:
+                    out += data
+                else:
+                    errors = (errors + data)[-KEPT_ERROR_BYTES:]
+    return bytes(out[:TEXT_BYTES + 1]), closed, errors
+
+
+def rest_of(stream):
+    """What is in the pipe at once, at most one read of it."""
+    os.set_blocking(stream.fileno(), False)
+    try:
+        return os.read(stream.fileno(), READ_BYTES)
+    except BlockingIOError:
+        return b""
+
+
+def run(command, data, seconds):
+    """One run of a command with these bytes on its standard input."""
+    deadline = time.monotonic() + seconds
+    with tempfile.TemporaryFile() as case:
+        case.write(data)
+        case.seek(0)
+        process = subprocess.Popen(command, stdin=case, stdout=subprocess.PIPE, stderr=subprocess.PIPE,
+                                   start_new_session=True)
+    with process.stdout, process.stderr:
+        try:
+            out, closed, errors = follow(process, deadline)
+            ended = has_ended(process)
+        finally:
+            os.killpg(process.pid, signal.SIGKILL)
+            process.wait()
+        errors += rest_of(process.stderr)
+    if len(out) > TEXT_BYTES:
+        return Run(out, None, None)
+    if ended and process.returncode != 0:
+        return Run(out, CRASHED, ending(process.returncode) + last_line(errors))
+    if ended and closed:
+        return Run(out, None, None)
+    what = "its output was still open" if ended else "it had not ended"
+    return Run(out, HUNG, "%s after %g seconds" % (what, seconds))
+
+
+def ending(status):
+    if status > 0:
+        return "it ended with status %d" % status
+    names = {number.value: " (%s)" % number.name for number in signal.Signals}
+    return "it ended by signal %d%s" % (-status, names.get(-status, ""))
+
+
+def last_line(errors):
+    """The last line of a standard error, as more words to a sentence."""
+    line = errors.strip().split(b"\n")[-1].strip()
+    return ": " + cut(line, 0) if line else ""
+
+
+# Verdicts
+
+def first_difference(right, found):
+    lines = itertools.zip_longest(io.BytesIO(right), io.BytesIO(found))
+    for number, (one, other) in enumerate(lines, 1):
+        if one != other:
+            return Difference(number, one, other)
+    return None
+
+
+def verdict(judge, simulator):
+    if simulator.failure:
+        return simulator.failure
+    return AGREED if simulator.out == judge.out else DIFFERS
+
+
+def same_way(judge, first, second):
+    """Whether both simulators differ, and the first wrong line of both is the same."""
+    if verdict(judge, first) != DIFFERS or verdict(judge, second) != DIFFERS:
+        return False
+    return first_difference(judge.out, first.out) == first_difference(judge.out, second.out)
+
+
+class Arbiter:
+    """The three programs, and how long a run may take."""
+
+    def __init__(self, memcase, commands, names, seconds):
+        self.memcase = memcase
+        self.commands = commands
+        self.names = names
+        self.seconds = seconds
+
+    def outcome(self, case):
+        """Run a case: `memcase` first, and the simulators where it gives a text."""
+        judge = run(self.memcase, case.data, self.seconds)
+        if judge.failure or len(judge.out) > TEXT_BYTES:
+            return Outcome(case.name, [NO_VERDICT] * 2, [judge_line(judge)], False)
+        runs = [run(command, case.data, self.seconds) for command in self.commands]
+        details = [line for name, simulator in zip(self.names, runs)
+                   for line in detail_lines(name, judge, simulator)]
+        return Outcome(case.name, [verdict(judge, simulator) for simulator in runs], details,
+                       same_way(judge, *runs))
+
+
+# The table
+
+def escaped(data):
+    """Bytes as printable text, a backslash doubled."""
+    return "".join(chr(byte) if 32 <= byte < 127 and byte != 92 else "\\\\" if byte == 92 else "\\x%02x" % byte
+                   for byte in data)
+
+
+def cut(data, start):
+    """The bytes from `start` on as far as they are shown."""
+    end = start + SHOWN_BYTES
+    return (".." if start else "") + escaped(data[start:end]) + (".." if end < len(data) else "")
+
+
+def shown(line, start):
+    if line is None:
+        return "(no line)"
+    text = line.removesuffix(b"\n")
+    return (cut(text, start) or "(empty line)") + ("" if line.endswith(b"\n") else " (no newline)")
+
+
+def common_bytes(one, other):
+    """How many bytes two lines have in common at their beginning."""
+    return len(os.path.commonprefix([one or b"", other or b""]))
+
+
+def difference_lines(name, judge, simulator):
+    """A simulator's first difference, the place of it within what is shown of both lines."""
+    number, right, found = first_difference(judge.out, simulator.out)
+    common = common_bytes(right, found)
+    start = 0 if common < SHOWN_BYTES - SHOWN_BEFORE else common - SHOWN_BEFORE
+    width = max(len(name), len(JUDGE))
+    yield "  %s differs from line %d, byte %d" % (name, number, common + 1)
+    yield "    %-*s  %s" % (width, JUDGE, shown(right, start))
+    yield "    %-*s  %s" % (width, name, shown(found, start))
+    if len(simulator.out) > TEXT_BYTES:
+        yield "    %s wrote more than %d bytes and was stopped" % (name, TEXT_BYTES)
+
+
+def detail_lines(name, judge, simulator):
+    """What is said of a simulator below the row of a case."""
+    found = verdict(judge, simulator)
+    if found == DIFFERS:
+        yield from difference_lines(name, judge, simulator)
+    elif found != AGREED:
+        right = ", and its text was right" if simulator.out == judge.out else ""
+        yield "  %s %s: %s%s" % (name, found, simulator.how, right)
+
+
+def judge_line(judge):
+    """Why there is no verdict."""
+    if judge.failure:
+        return "  no verdict: memcase %s: %s" % (judge.failure, judge.how)
+    return "  no verdict: memcase wrote more than %d bytes" % TEXT_BYTES
+
+
+class Table:
+    """The rows, printed as they come, under a head where there is any."""
+
+    def __init__(self, names, cases):
+        self.names = names
+        self.widths = [max(len(case.name) for case in cases)] + [max(len(name), len(DIFFERS)) for name in names]
+        self.begun = False
+
+    def row(self, *cells):
+        print("  ".join("%-*s" % (width, cell) for width, cell in zip(self.widths, cells)).rstrip())
+
+    def put(self, outcome):
+        if not self.begun:
+            self.row("case", *self.names)
+            self.begun = True
+        self.row(outcome.name, *outcome.verdicts)
+        for line in outcome.details:
+            print(line)
+        sys.stdout.flush()
+
+    def end(self):
+        if self.begun:
+            print()
+
+
+def counted(number, what):
+    return "%d %s%s" % (number, what, "" if number == 1 else "s")
+
+
+def print_counts(names, outcomes, left_out):
+    print(counted(len(outcomes), "case"))
+    for place, name in enumerate(names):
+        counts = Counter(outcome.verdicts[place] for outcome in outcomes)
+        print("%s: %s" % (name, ", ".join("%s %d" % (word, counts[word]) for word in VERDICTS)))
+    failed = sum(NO_VERDICT in outcome.verdicts for outcome in outcomes)
+    if failed:
+        print("memcase failed: no verdict in " + counted(failed, "case"))
+    alike = [outcome.name for outcome in outcomes if outcome.alike]
+    if alike:
+        print("%s and %s differ from memcase in the same way in %s:" % (*names, counted(len(alike), "case")))
+        for name in alike:
+            print("  " + name)
+    if left_out:
+        print("left out: %s not named .case or .txt" % counted(left_out, "file"))
+
+
+def exit_status(outcomes):
+    found = {word for outcome in outcomes for word in outcome.verdicts}
+    if NO_VERDICT in found:
+        return 2
+    return 0 if found == {AGREED} else 1
+
+
+# What is given
+
+def stop_walk(error):
+    raise Misuse("cannot read the folder %s: %s" % (error.filename, error.strerror))
+
+
+def paths_in(folder):
+    """The files below a folder, as lists of names from the folder on, sorted."""
+    found = []
+    for place, _, files in os.walk(folder, onerror=stop_walk):
+        inner = os.path.relpath(place, folder)
+        found += [([] if inner == "." else inner.split(os.sep)) + [file] for file in files]
+    return sorted(found)
+
+
+def read_case(path, name):
+    if not os.path.isfile(path):
+        raise Misuse("%s is no file" % name)
+    with open(path, "rb") as file:
+        data = file.read()
+    if path.endswith(".case"):
+        return Case(name, data)
+    try:
+        return Case(name, casetext.encode(data.decode("utf-8")))
+    except UnicodeDecodeError:
+        raise Misuse("%s is no text" % name) from None
+    except casetext.Mistake as mistake:
+        raise Misuse("%s is no text of a case: %s" % (name, mistake)) from None
+
+
+def read_cases(folder):
+    """The cases of a folder, and how many files are none by their names."""
+    if not os.path.isdir(folder):
+        raise Misuse("no folder %s" % folder)
+    paths = paths_in(folder)
+    named = [path for path in paths if path[-1].endswith((".case", ".txt"))]
+    if not named:
+        raise Misuse("no case in %s: no file is named .case or .txt" % folder)
+    cases = [read_case(os.path.join(folder, *path), escaped(os.fsencode("/".join(path)))) for path in named]
+    return cases, len(paths) - len(named)
+
+
+def words_of(command):
+    """A command as the words that are run."""
+    try:
+        words = shlex.split(command)
+    except ValueError as error:
+        raise Misuse("the command %s cannot be split: %s" % (command, error)) from None
+    if not words:
+        raise Misuse("an empty command")
+    return need_program(words, "")
+
+
+def need_program(words, hint):
+    if shutil.which(words[0]) is None:
+        raise Misuse("no program %s%s" % (words[0], hint))
+    return words
+
+
+def read_memcase(command):
+    if command is None:
+        return need_program([MEMCASE], "; `rt check memcase` builds it")
+    return words_of(command)
+
+
+def need_names(names):
+    if len({*names, JUDGE}) < 3:
+        raise Misuse("the simulators need two names, neither of them %s" % JUDGE)
+    if not all(name.isprintable() and name.strip() for name in names):
+        raise Misuse("a name must be printable")
+
+
+def arbitrate(options):
+    """Run all cases and print what came out; the status to end with."""
+    if not (options.seconds > 0 and math.isfinite(options.seconds)):
+        raise Misuse("--seconds must be above 0")
+    if options.jobs < 1:
+        raise Misuse("--jobs must be 1 or more")
+    need_names(options.names)
+    cases, left_out = read_cases(options.folder)
+    memcase = read_memcase(options.memcase)
+    commands = [words_of(command) for command in options.commands]
+
+    arbiter = Arbiter(memcase, commands, options.names, options.seconds)
+    table = Table(options.names, cases)
+    outcomes = []
+    with ThreadPoolExecutor(options.jobs) as pool:
+        for outcome in pool.map(arbiter.outcome, cases):
+            outcomes.append(outcome)
+            if options.all or outcome.verdicts != [AGREED, AGREED]:
+                table.put(outcome)
+    table.end()
+    print_counts(options.names, outcomes, left_out)
+    return exit_status(outcomes)
+
+
+def main():
+    parser = argparse.ArgumentParser(description=__doc__, formatter_class=argparse.RawDescriptionHelpFormatter)
+    parser.add_argument("folder", metavar="FOLDER")
+    parser.add_argument("commands", nargs=2, metavar="COMMAND")
+    parser.add_argument("--memcase", metavar="COMMAND", help="the judge (target/bin/memcase)")
+    parser.add_argument("--seconds", type=float, default=10, metavar="S", help="for one run (10)")
+    parser.add_argument("--jobs", type=int, default=os.cpu_count() or 1, metavar="N",
+                        help="cases run at a time (as many as there are processors)")
+    parser.add_argument("--names", nargs=2, default=["first", "second"], metavar=("A", "B"),
+                        help="what the simulators are called (first second)")
+    parser.add_argument("--all", action="store_true", help="a row for every case")
+    options = parser.parse_args()
+    try:
+        sys.exit(arbitrate(options))
+    except (Misuse, OSError) as error:
+        print("arbiter: %s" % error, file=sys.stderr)
+        sys.exit(2)
+
+
+if __name__ == "__main__":
+    main()
