@@ -1,0 +1,81 @@
+-- What the functions promise: each is the model's call on the record that the six words are.
+use mathlib.Core.Bool.{cond}
+use mathlib.Core.List.{List, []}
+use Prim.Native.Nat.{ℕ}
+use Rattle.model.specs.Step.{Call, evaluate, Answer, refused, place, filled, entered, kept, accepted, valued, node, Result, step, answerWords, Fresh, fresh}
+use Rattle.casefile.specs.Case.{Case, Answered, accepts, refuses, caseOf}
+use Rattle.capi.specs.Words.{recordIn, wordsOf, stateIn}
+
+-- "0 for accepted or the row's number"
+abbrev pub numberOf : Answer → ℕ
+numberOf (refused k) = k
+numberOf (place k) = 0
+numberOf (filled r) = 0
+numberOf entered = 0
+numberOf kept = 0
+numberOf accepted = 0
+numberOf (valued b) = 0
+numberOf (node n) = 0
+
+-- the out-word that held v: "Where a call is refused, out-words are untouched"; "`value` is 0 or 1; `entered` is 1, or 0 for kept"
+abbrev pub outOf : Answer → ℕ → ℕ
+outOf (refused k) v = v
+outOf (place k) v = k
+outOf (filled r) v = v
+outOf entered v = 1
+outOf kept v = 0
+outOf accepted v = v
+outOf (valued b) v = cond b 1 0
+outOf (node n) v = n
+
+-- what a function returns, and what it leaves in the record's words, node words, list, answer words and out-word; [] or 0 where it is lent none
+pub record Left : Type 0 where
+  pub number : ℕ
+  pub rec : List ℕ
+  pub nodes : List ℕ
+  pub list : List ℕ
+  pub answer : List ℕ
+  pub out : ℕ
+
+abbrev pub left : ℕ → List ℕ → List ℕ → List ℕ → List ℕ → ℕ → Left
+left k r w l a v = record { number = k; rec = r; nodes = w; list = l; answer = a; out = v }
+
+-- by a call's result, from answer words a and an out-word v
+abbrev pub leftBy : Result → List ℕ → ℕ → Left
+leftBy x a v = left (numberOf (x .answer)) (wordsOf (x .after .rec)) (x .after .words) (x .after .list) (answerWords (x .answer) a) (outOf (x .answer) v)
+
+unfoldable pub called : Call → List ℕ → List ℕ → List ℕ → List ℕ → ℕ → Left
+called c r w l a v = leftBy (step c (stateIn r w l)) a v
+
+-- evaluate: the number and the value
+abbrev pub evaluatedBy : Left → ℕ × ℕ
+evaluatedBy x = (x .number, x .out)
+
+unfoldable pub evaluated : ℕ → ℕ → List ℕ → List ℕ → ℕ → ℕ × ℕ
+evaluated f φ r w v = evaluatedBy (called (evaluate f φ) r w [] [] v)
+
+-- Fresh: the number, the record's words and the node words
+abbrev pub freshBy : Fresh → ℕ × List ℕ × List ℕ
+freshBy x = (x .answer, wordsOf (x .rec), x .words)
+
+unfoldable pub freshed : ℕ → ℕ → List ℕ → List ℕ → ℕ × List ℕ × List ℕ
+freshed n w r ws = freshBy (fresh (recordIn r) n w ws)
+
+-- a case: "`count` is the text length, or K where the case is refused", and then the record is untouched
+pub record LeftCase : Type 0 where
+  pub number : ℕ
+  pub nodes : List ℕ
+  pub list : List ℕ
+  pub text : List ℕ
+  pub rec : List ℕ
+  pub count : ℕ
+
+abbrev pub leftCase : ℕ → List ℕ → List ℕ → List ℕ → List ℕ → ℕ → LeftCase
+leftCase k w l b r n = record { number = k; nodes = w; list = l; text = b; rec = r; count = n }
+
+abbrev pub caseBy : Answered → List ℕ → List ℕ → List ℕ → List ℕ → LeftCase
+caseBy (accepts n m) w l b r = leftCase 0 w l b (wordsOf m) n
+caseBy (refuses k after) w l b r = leftCase k w l b r after
+
+unfoldable pub cased : List ℕ → List ℕ → List ℕ → List ℕ → List ℕ → LeftCase
+cased file w l b r = caseBy (caseOf file w l b .answer) (caseOf file w l b .words) (caseOf file w l b .list) (caseOf file w l b .text) r

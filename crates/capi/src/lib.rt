@@ -1,0 +1,243 @@
+// The calls for C: the record is six words, and every function returns 0 for accepted or the row's number.
+ghost use mathlib.Core.Path.{_≡_};
+ghost use mathlib.Core.List.{[]};
+ghost use Rattle.model.specs.Step.{ite, write, read, assert, check};
+ghost use Rattle.model.specs.Step as step;
+ghost use Rattle.memory.specs.Contract.{recordOf};
+ghost use Rattle.capi.specs.Words.{recordIn, wordsOf};
+ghost use Rattle.capi.specs.Contract.{left, called, evaluated, freshed, leftCase, cased};
+use access::ControlNode;
+use casefile::CaseAnswer;
+use memory::AssertAnswer;
+use memory::CheckAnswer;
+use memory::FreshAnswer;
+use memory::NodeAnswer;
+use memory::ReadAnswer;
+use memory::Record;
+use memory::ValueAnswer;
+use memory::WriteAnswer;
+
+// The record that six words are.
+fn record_of(words: &[u32; 6]) -> Record
+    ensures { λ r. ⌜ recordOf r ≡ recordIn (now (words .entry)) ⌝ }
+{
+    Record {
+        n: words[0],
+        w: words[1],
+        count: words[2],
+        entries: words[3],
+        asserted: words[4],
+        checked: words[5],
+    }
+}
+
+// The record's six words.
+fn put_record(words: &mut [u32; 6], r: Record)
+    ensures { λ _. ⌜ now (words .exit) ≡ wordsOf (recordOf r) ⌝ }
+{
+    *words = [r.n, r.w, r.count, r.entries, r.asserted, r.checked];
+}
+
+// Fresh.
+#[no_mangle]
+pub extern "C" fn md_fresh(record: &mut [u32; 6], n: u32, w: u32, nodes: &mut [u32]) -> u32
+    ensures { λ r. ⌜ (r, now («record» .exit), now (nodes .exit)) ≡ freshed n w (now («record» .entry)) (now (nodes .entry)) ⌝ }
+{
+    let x = record_of(record).fresh(nodes, n, w);
+    put_record(record, x.after);
+    let answer = x.answer;
+    match answer {
+        FreshAnswer::Accepted => 0,
+        FreshAnswer::Refused(k) => k,
+    }
+}
+
+// The node of a variable.
+#[no_mangle]
+pub extern "C" fn md_variable(
+    record: &mut [u32; 6],
+    nodes: &mut [u32],
+    variable: u32,
+    node: &mut u32,
+) -> u32
+    ensures { λ r. ⌜ left r (now («record» .exit)) (now (nodes .exit)) [] [] (now (node .exit)) ≡ called (step.variable variable) (now («record» .entry)) (now (nodes .entry)) [] [] (now (node .entry)) ⌝ }
+{
+    let x = record_of(record).variable(nodes, variable);
+    put_record(record, x.after);
+    let answer = x.answer;
+    match answer {
+        NodeAnswer::Node(k) => {
+            *node = k;
+            0
+        }
+        NodeAnswer::Refused(k) => k,
+    }
+}
+
+// The node of Ite(f, g, h).
+#[no_mangle]
+pub extern "C" fn md_ite(
+    record: &mut [u32; 6],
+    nodes: &mut [u32],
+    f: u32,
+    g: u32,
+    h: u32,
+    node: &mut u32,
+) -> u32
+    ensures { λ r. ⌜ left r (now («record» .exit)) (now (nodes .exit)) [] [] (now (node .exit)) ≡ called (ite f g h) (now («record» .entry)) (now (nodes .entry)) [] [] (now (node .entry)) ⌝ }
+{
+    let x = record_of(record).ite(nodes, f, g, h);
+    put_record(record, x.after);
+    let answer = x.answer;
+    match answer {
+        NodeAnswer::Node(k) => {
+            *node = k;
+            0
+        }
+        NodeAnswer::Refused(k) => k,
+    }
+}
+
+// The value of a node under a 64-bit assignment: 0 or 1.
+#[no_mangle]
+pub extern "C" fn md_evaluate(
+    record: &[u32; 6],
+    nodes: &[u32],
+    node: u32,
+    assignment: u64,
+    value: &mut u32,
+) -> u32
+    ensures { λ r. ⌜ (r, now (value .exit)) ≡ evaluated node assignment (now («record» .entry)) (now (nodes .entry)) (now (value .entry)) ⌝ }
+{
+    let x = record_of(record).evaluate(nodes, node, assignment);
+    let answer = x.answer;
+    match answer {
+        ValueAnswer::Value(b) => {
+            *value = b as u32;
+            0
+        }
+        ValueAnswer::Refused(k) => k,
+    }
+}
+
+// Write.
+#[no_mangle]
+pub extern "C" fn md_write(
+    record: &mut [u32; 6],
+    nodes: &mut [u32],
+    list: &mut [u32],
+    enable: &[u32],
+    address: &[u32],
+    data: &[u32],
+    place: &mut u32,
+) -> u32
+    ensures { λ r. ⌜ left r (now («record» .exit)) (now (nodes .exit)) (now (list .exit)) [] (now (place .exit)) ≡ called (write (now (enable .entry)) (now (address .entry)) (now («data» .entry))) (now («record» .entry)) (now (nodes .entry)) (now (list .entry)) [] (now (place .entry)) ⌝ }
+{
+    let x = record_of(record).write(nodes, list, enable, address, data);
+    put_record(record, x.after);
+    let answer = x.answer;
+    match answer {
+        WriteAnswer::Place(k) => {
+            *place = k;
+            0
+        }
+        WriteAnswer::Refused(k) => k,
+    }
+}
+
+// Check.
+#[no_mangle]
+pub extern "C" fn md_check(
+    record: &mut [u32; 6],
+    nodes: &mut [u32],
+    list: &[u32],
+    b: u32,
+    address: &[u32],
+    data: &[u32],
+) -> u32
+    ensures { λ r. ⌜ left r (now («record» .exit)) (now (nodes .exit)) (now (list .entry)) [] 0 ≡ called (check b (now (address .entry)) (now («data» .entry))) (now («record» .entry)) (now (nodes .entry)) (now (list .entry)) [] 0 ⌝ }
+{
+    let x = record_of(record).check(nodes, list, ControlNode(b), address, data);
+    put_record(record, x.after);
+    let answer = x.answer;
+    match answer {
+        CheckAnswer::Accepted => 0,
+        CheckAnswer::Refused(k) => k,
+    }
+}
+
+// Assert: entered is 1, or 0 for kept.
+#[no_mangle]
+pub extern "C" fn md_assert(
+    record: &mut [u32; 6],
+    nodes: &mut [u32],
+    list: &mut [u32],
+    b: u32,
+    address: &[u32],
+    data: &[u32],
+    entered: &mut u32,
+) -> u32
+    ensures { λ r. ⌜ left r (now («record» .exit)) (now (nodes .exit)) (now (list .exit)) [] (now (entered .exit)) ≡ called (assert b (now (address .entry)) (now («data» .entry))) (now («record» .entry)) (now (nodes .entry)) (now (list .entry)) [] (now (entered .entry)) ⌝ }
+{
+    let x = record_of(record).assert(nodes, list, ControlNode(b), address, data);
+    put_record(record, x.after);
+    let answer = x.answer;
+    match answer {
+        AssertAnswer::Entered => {
+            *entered = 1;
+            0
+        }
+        AssertAnswer::Kept => {
+            *entered = 0;
+            0
+        }
+        AssertAnswer::Refused(k) => k,
+    }
+}
+
+// Read.
+#[no_mangle]
+pub extern "C" fn md_read(
+    record: &mut [u32; 6],
+    nodes: &mut [u32],
+    list: &[u32],
+    enable: &[u32],
+    address: &[u32],
+    answer: &mut [u32],
+) -> u32
+    ensures { λ r. ⌜ left r (now («record» .exit)) (now (nodes .exit)) (now (list .entry)) (now (answer .exit)) 0 ≡ called (read (now (enable .entry)) (now (address .entry)) (now (answer .entry))) (now («record» .entry)) (now (nodes .entry)) (now (list .entry)) (now (answer .entry)) 0 ⌝ }
+{
+    let x = record_of(record).read(nodes, list, enable, address, answer);
+    put_record(record, x.after);
+    let filled = x.answer;
+    match filled {
+        ReadAnswer::Filled => 0,
+        ReadAnswer::Refused(k) => k,
+    }
+}
+
+// A case file: count is the text length, or K where the case is refused.
+#[no_mangle]
+pub extern "C" fn md_case(
+    case: &[u8],
+    nodes: &mut [u32],
+    list: &mut [u32],
+    text: &mut [u8],
+    record: &mut [u32; 6],
+    count: &mut u64,
+) -> u32
+    ensures { λ r. ⌜ leftCase r (now (nodes .exit)) (now (list .exit)) (now (text .exit)) (now («record» .exit)) (now (count .exit)) ≡ cased (now (case .entry)) (now (nodes .entry)) (now (list .entry)) (now (text .entry)) (now («record» .entry)) ⌝ }
+{
+    let answer = casefile::run_case(case, nodes, list, text);
+    match answer {
+        CaseAnswer::Done { length, memory } => {
+            put_record(record, memory);
+            *count = length as u64;
+            0
+        }
+        CaseAnswer::Refused { number, after } => {
+            *count = after as u64;
+            number
+        }
+    }
+}
