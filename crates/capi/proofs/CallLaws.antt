@@ -1,11 +1,11 @@
 -- A call by the record that six words are, and the record written back.
-use mathlib.Core.Path.{_≡_, refl, sym, ap, _∙_, subst}
+use mathlib.Core.Path.{_≡_, refl, sym, ap, _∙_}
 use mathlib.Core.Bool.{Bool, true, false, cond}
 use mathlib.Core.List.{List, []}
 use Prim.Native.Nat.{ℕ, zero, suc}
 use mir.Val.{boolByte}
 use Rattle.model.specs.Record as model
-use Rattle.model.specs.Step.{State, Call, evaluate, read, Answer, Result, step, answerWords, Fresh, fresh}
+use Rattle.model.specs.Step.{Call, evaluate, read, Answer, Result, step, answerWords, fresh}
 use Rattle.memory.specs.declared.Record.{Record}
 use Rattle.memory.specs.declared.ValueAnswer.{ValueAnswer}
 use Rattle.memory.specs.declared.ValueAnswer.the-variants as value
@@ -13,8 +13,8 @@ use Rattle.memory.specs.declared.ReadAnswer.{ReadAnswer}
 use Rattle.memory.specs.declared.ReadAnswer.the-variants as reads
 use Rattle.memory.specs.Contract.{recordOf, stateOf, numbered, readAnswer, valueAnswer, Answers, AnswersNoList, ReadAnswers}
 use Rattle.memory.specs.Contract as memory
-use Rattle.capi.specs.Words.{recordIn, wordsOf, stateIn}
-use Rattle.capi.specs.Contract.{numberOf, outOf, Left, left, leftBy, called, evaluatedBy, evaluated, freshed}
+use Rattle.capi.specs.Words.{recordIn, wordsOf}
+use Rattle.capi.specs.Contract.{numberOf, outOf, left, leftBy, called, evaluatedBy, evaluated, freshed}
 
 -- a call of memory from the record m, which the words r are, to m′, of which r′ are the words; its answer x is y
 pub call-is : {A : Type 0} (g : A → Answer) {x y : A} (c : Call) {m m′ : Record} {r′ w′ l′ : List ℕ} (r w l a : List ℕ) (v : ℕ)

@@ -6,11 +6,6 @@ use denote.Ref.{now}
 use borrow.Author.Needs.{needs}
 use Rattle.capi.proofs.md_assert.Statement.{statement}
 use Rattle.capi.proofs.md_assert.Tie as tie
-use Rattle.capi.proofs.md_assert.Reads as reads
-use Rattle.capi.proofs.md_assert.Lts as lts
-use Rattle.capi.proofs.put_record.Reads as put-record-reads
-use Rattle.capi.proofs.record_of.Reads as record-of-reads
-use Rattle.memory.proofs.Record.assert.Reads as assert-reads
 
 record-of-requires : tie.Need-record-of-requires
 record-of-requires c κs = search needs

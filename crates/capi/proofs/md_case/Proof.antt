@@ -3,10 +3,6 @@ use denote.Ref.{now}
 use borrow.Author.Needs.{needs}
 use Rattle.capi.proofs.md_case.Statement.{statement}
 use Rattle.capi.proofs.md_case.Tie as tie
-use Rattle.capi.proofs.md_case.Reads as reads
-use Rattle.capi.proofs.md_case.Lts as lts
-use Rattle.capi.proofs.put_record.Reads as put-record-reads
-use Rattle.casefile.proofs.run_case.Reads as run-case-reads
 
 run-case-requires : tie.Need-run-case-requires
 run-case-requires c κs = search needs

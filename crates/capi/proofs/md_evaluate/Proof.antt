@@ -4,10 +4,6 @@ use denote.Ref.{now}
 use borrow.Author.Needs.{needs}
 use Rattle.capi.proofs.md_evaluate.Statement.{statement}
 use Rattle.capi.proofs.md_evaluate.Tie as tie
-use Rattle.capi.proofs.md_evaluate.Reads as reads
-use Rattle.capi.proofs.md_evaluate.Lts as lts
-use Rattle.capi.proofs.record_of.Reads as record-of-reads
-use Rattle.memory.proofs.Record.evaluate.Reads as evaluate-reads
 
 record-of-requires : tie.Need-record-of-requires
 record-of-requires c κs = search needs

@@ -4,11 +4,6 @@ use Rattle.memory.specs.Contract.{freshAnswer}
 use borrow.Author.Needs.{needs}
 use Rattle.capi.proofs.md_fresh.Statement.{statement}
 use Rattle.capi.proofs.md_fresh.Tie as tie
-use Rattle.capi.proofs.md_fresh.Reads as reads
-use Rattle.capi.proofs.md_fresh.Lts as lts
-use Rattle.capi.proofs.put_record.Reads as put-record-reads
-use Rattle.capi.proofs.record_of.Reads as record-of-reads
-use Rattle.memory.proofs.Record.fresh.Reads as fresh-reads
 
 record-of-requires : tie.Need-record-of-requires
 record-of-requires c κs = search needs

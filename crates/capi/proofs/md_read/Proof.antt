@@ -4,11 +4,6 @@ use denote.Ref.{now}
 use borrow.Author.Needs.{needs}
 use Rattle.capi.proofs.md_read.Statement.{statement}
 use Rattle.capi.proofs.md_read.Tie as tie
-use Rattle.capi.proofs.md_read.Reads as reads
-use Rattle.capi.proofs.md_read.Lts as lts
-use Rattle.capi.proofs.put_record.Reads as put-record-reads
-use Rattle.capi.proofs.record_of.Reads as record-of-reads
-use Rattle.memory.proofs.Record.read.Reads as read-reads
 
 record-of-requires : tie.Need-record-of-requires
 record-of-requires c κs = search needs

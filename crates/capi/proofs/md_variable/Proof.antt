@@ -6,11 +6,6 @@ use mathlib.Core.List.{[]}
 use borrow.Author.Needs.{needs}
 use Rattle.capi.proofs.md_variable.Statement.{statement}
 use Rattle.capi.proofs.md_variable.Tie as tie
-use Rattle.capi.proofs.md_variable.Reads as reads
-use Rattle.capi.proofs.md_variable.Lts as lts
-use Rattle.capi.proofs.put_record.Reads as put-record-reads
-use Rattle.capi.proofs.record_of.Reads as record-of-reads
-use Rattle.memory.proofs.Record.variable.Reads as variable-reads
 
 record-of-requires : tie.Need-record-of-requires
 record-of-requires c κs = search needs

@@ -6,11 +6,6 @@ use denote.Ref.{now}
 use borrow.Author.Needs.{needs}
 use Rattle.capi.proofs.md_write.Statement.{statement}
 use Rattle.capi.proofs.md_write.Tie as tie
-use Rattle.capi.proofs.md_write.Reads as reads
-use Rattle.capi.proofs.md_write.Lts as lts
-use Rattle.capi.proofs.put_record.Reads as put-record-reads
-use Rattle.capi.proofs.record_of.Reads as record-of-reads
-use Rattle.memory.proofs.Record.write.Reads as write-reads
 
 record-of-requires : tie.Need-record-of-requires
 record-of-requires c κs = search needs

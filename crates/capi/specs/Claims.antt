@@ -1,0 +1,21 @@
+-- What follows of every call, for C: 0 is accepted, and what a refused one leaves.
+use mathlib.Core.Path.{_≡_}
+use mathlib.Core.Bool.{false}
+use mathlib.Core.List.{List}
+use Prim.Native.Nat.{ℕ, suc}
+use lib.ListN.{length}
+use Rattle.model.specs.Step.{Call, isRefused, step}
+use Rattle.model.specs.Frames.{clears, wordsAfter}
+use Rattle.capi.specs.Words.{stateIn}
+use Rattle.capi.specs.Contract.{left, called, freshed}
+
+-- "0 for accepted"
+unfoldable pub ZeroAccepts : Type 0
+ZeroAccepts = (c : Call) (r w l a : List ℕ) (v : ℕ) → called c r w l a v .number ≡ 0 → isRefused (step c (stateIn r w l) .answer) ≡ false
+
+-- refused: record, list, answer words and out-word "are untouched", and node words too, but for those that 9, or 8 in an assert, clears
+unfoldable pub RefusedLeaves : Type 0
+RefusedLeaves = (c : Call) (r w l a : List ℕ) (v k : ℕ) → length r ≡ 6 → called c r w l a v .number ≡ suc k → called c r w l a v ≡ left (suc k) r (wordsAfter (clears c (suc k)) (stateIn r w l)) l a v
+
+unfoldable pub FreshRefused : Type 0
+FreshRefused = (n w : ℕ) (r ws : List ℕ) (k : ℕ) → length r ≡ 6 → freshed n w r ws .0 ≡ suc k → freshed n w r ws ≡ (suc k, r, ws)
