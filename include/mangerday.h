@@ -1,0 +1,112 @@
+/*
+ * The symbolic memory model, for simulators in C and C++ (C99, x86-64 Linux).
+ *
+ * Conditions are nodes of decision diagrams in a lent slice of words, three words a node: variable,
+ * low child, high child. Node 0 is false, node 1 true. A pair of nodes (h, l) stands for a bit that
+ * may be 1 where h holds and 0 where l holds: (1, 0) is 1, (0, 1) is 0, (1, 1) is X. An address is n
+ * pairs, a data word w pairs, lowest bit first and h before l, so 2n and 2w words; an enable is one
+ * pair, two words. The memory is the record, the node words and the list words together; they go
+ * from call to call as the last call left them.
+ *
+ * Every call answers 0, accepted, or the number of the row that refuses it:
+ *
+ *    1  n or w outside its range
+ *    2  fewer than 6 node words, node count under 2 or over capacity, nodes not in standard form
+ *    3  entry count over the list's capacity; an entry word or record condition that 5 would refuse
+ *    4  a slice not exactly 2n or 2w words, an enable not 2
+ *    5  an access's or Ite's node not below the count or on an index variable;
+ *       evaluate: not below the count; variable not 8 to 63
+ *    6  some assignment makes a pair neither 1 nor 0
+ *    7  assert: some assignment has b and an X address bit
+ *    8  no space for the entry
+ *    9  a node is needed past capacity
+ *   10  the case file ends early
+ *   11  unknown kind of access
+ *   12  bytes after the last access
+ *   13  text too long for its buffer
+ *
+ * The least number is answered, but for 8 in an assert, which comes after a 9 that is met before its
+ * entry is needed. A refused call leaves the record, the nodes below the count, the list, the answer
+ * words and the out-word as they were; after 9, and after 8 in an assert, the node words from the
+ * count to capacity are 0. An accepted call changes no older node or entry and no word past the new
+ * counts. Any words may be lent: what is no memory is refused, by row 1, 2 or 3.
+ *
+ * Node capacity is the words divided by 3, rounded down, at most 16,384. List capacity is whole
+ * entries of 2 + 2n + 2w words, at most 4,096.
+ *
+ * What a caller must see to:
+ *  - A pointer is not null and is aligned for its type, also where the length beside it is 0.
+ *  - What a call is lent does not overlap, but that two slices or records that it only reads may.
+ *  - Node, list, text and answer words are initialized memory before they are lent: any content will do.
+ *  - MD_STACK bytes of stack are free. (The calls use no heap.)
+ * Nothing is kept between calls and nothing is global: threads may call at once, each on its own buffers.
+ */
+#ifndef MANGERDAY_H
+#define MANGERDAY_H
+
+#include <stddef.h>
+#include <stdint.h>
+
+#ifdef __cplusplus
+extern "C" {
+#endif
+
+/* The stack that a call needs at most, in bytes, with some to spare. */
+#define MD_STACK 1048576
+
+/* The record is six words: n, w, node count, entry count, assert condition, check condition. */
+enum { MD_N, MD_W, MD_NODES, MD_ENTRIES, MD_ASSERTED, MD_CHECKED, MD_RECORD };
+
+/* A memory of n address bits (1 to 8) and w data bits (1 to 16): counts 2 and 0, both conditions 1,
+   and nodes 0 and 1 written into the node words, which are at least 6. Meets 1 and 2. */
+uint32_t md_fresh(uint32_t record[MD_RECORD], uint32_t n, uint32_t w, uint32_t *nodes, size_t nodes_length);
+
+/* The value, 0 or 1, of a node under an assignment, in which bit v is variable v. Meets 1, 2 and 5. */
+uint32_t md_evaluate(const uint32_t record[MD_RECORD], const uint32_t *nodes, size_t nodes_length, uint32_t node,
+                     uint64_t assignment, uint32_t *value);
+
+/* The node of a user variable, 8 to 63: it holds where the variable is 1. Meets 1, 2, 5 and 9. */
+uint32_t md_variable(uint32_t record[MD_RECORD], uint32_t *nodes, size_t nodes_length, uint32_t variable,
+                     uint32_t *node);
+
+/* The node that is g where f holds and h elsewhere. Not f is (f, 0, 1), f and g is (f, g, 0), f or g
+   is (f, 1, g). Two conditions that agree under every assignment are one node. Meets 1, 2, 5 and 9. */
+uint32_t md_ite(uint32_t record[MD_RECORD], uint32_t *nodes, size_t nodes_length, uint32_t f, uint32_t g, uint32_t h,
+                uint32_t *node);
+
+/* A write under an enable pair: appends an entry to the list and answers its place, counted from 0.
+   An enable or an address that is X makes an entry that may or may not hold. Meets 1 to 6, 8 and 9. */
+uint32_t md_write(uint32_t record[MD_RECORD], uint32_t *nodes, size_t nodes_length, uint32_t *list, size_t list_length,
+                  const uint32_t *enable, size_t enable_length, const uint32_t *address, size_t address_length,
+                  const uint32_t *data, size_t data_length, uint32_t *place);
+
+/* A read under an enable pair: fills 2w answer words, each bit's h before its l, with what every
+   plain memory could return; an enable that is not certainly 1 gives all X. Meets 1 to 6 and 9. */
+uint32_t md_read(uint32_t record[MD_RECORD], uint32_t *nodes, size_t nodes_length, const uint32_t *list,
+                 size_t list_length, const uint32_t *enable, size_t enable_length, const uint32_t *address,
+                 size_t address_length, uint32_t *answer, size_t answer_length);
+
+/* Where the condition b holds, the word at the address is assumed to be admitted by the data: the
+   assert condition is narrowed to where the data lies inside what the memory admits, and the data is
+   entered (entered is 1), unless that would change nothing (kept: 0). Meets 1 to 9. */
+uint32_t md_assert(uint32_t record[MD_RECORD], uint32_t *nodes, size_t nodes_length, uint32_t *list,
+                   size_t list_length, uint32_t b, const uint32_t *address, size_t address_length,
+                   const uint32_t *data, size_t data_length, uint32_t *entered);
+
+/* Where the condition b holds, the word at the address must be admitted by the data: the check
+   condition is narrowed to where it always is. Meets 1 to 6 and 9. */
+uint32_t md_check(uint32_t record[MD_RECORD], uint32_t *nodes, size_t nodes_length, const uint32_t *list,
+                  size_t list_length, uint32_t b, const uint32_t *address, size_t address_length,
+                  const uint32_t *data, size_t data_length);
+
+/* A case file, run from its first byte to its last. Accepted: the text is written, count is its
+   length, record the last record. Refused (any row but 3 and 4): count is the number of accesses
+   already printed, node, list and text words are all 0, and the record is as it was. */
+uint32_t md_case(const uint8_t *bytes, size_t bytes_length, uint32_t *nodes, size_t nodes_length, uint32_t *list,
+                 size_t list_length, uint8_t *text, size_t text_length, uint32_t record[MD_RECORD], uint64_t *count);
+
+#ifdef __cplusplus
+}
+#endif
+
+#endif

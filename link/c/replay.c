@@ -1,0 +1,169 @@
+/*
+ * The paper's example, once by the calls and once as a case file. Both texts must be the paper's, and
+ * both must leave the same record, node words and list words; else the program says what differs and
+ * its status is 1.
+ */
+#include <stdio.h>
+#include <string.h>
+
+#include "mangerday.h"
+
+enum { NODE_WORDS = 96, LIST_WORDS = 24, TEXT_BYTES = 256 };
+
+static const char EXPECTED[] =
+    "write 0\n"
+    "read 1:(8 0 1)\n"
+    "check (8 1 0)\n"
+    "end 1\n";
+
+static const uint8_t CASE[] = {
+    0x01, 0x01,                                                                   /* n, w */
+    0x02, 0x00, 0x08, 0x00, 0x00, 0x01, 0x00, 0x08, 0x01, 0x00, 0x00, 0x00,       /* nodes 2 and 3 */
+    0x03, 0x00,                                                                   /* three accesses */
+    0x01, 0x01, 0x00, 0x00, 0x00, 0x02, 0x00, 0x03, 0x00, 0x01, 0x00, 0x00, 0x00, /* write */
+    0x02, 0x01, 0x00, 0x00, 0x00, 0x00, 0x00, 0x01, 0x00,                         /* read */
+    0x04, 0x01, 0x00, 0x00, 0x00, 0x01, 0x00, 0x01, 0x00, 0x00, 0x00,             /* check */
+};
+
+/* A memory as the calls pass it on, and a text. */
+struct memory {
+    uint32_t record[MD_RECORD];
+    uint32_t nodes[NODE_WORDS];
+    uint32_t list[LIST_WORDS];
+    char text[TEXT_BYTES];
+    size_t length;
+};
+
+static int failures = 0;
+
+/* A call that the example has accepted. */
+static void accept(const char *call, uint32_t row)
+{
+    if (row != 0) {
+        printf("%s: refused by row %u\n", call, (unsigned)row);
+        failures++;
+    }
+}
+
+static void put(struct memory *m, const char *bytes)
+{
+    size_t length = strlen(bytes);
+    if (m->length + length > TEXT_BYTES) {
+        printf("the text is too long\n");
+        failures++;
+        return;
+    }
+    memcpy(m->text + m->length, bytes, length);
+    m->length += length;
+}
+
+static void put_number(struct memory *m, uint32_t number)
+{
+    char digits[16];
+    snprintf(digits, sizeof digits, "%u", (unsigned)number);
+    put(m, digits);
+}
+
+/* A condition: 0, 1 or (v low high). */
+static void put_condition(struct memory *m, uint32_t node)
+{
+    if (node < 2) {
+        put_number(m, node);
+        return;
+    }
+    put(m, "(");
+    put_number(m, m->nodes[3 * node]);
+    put(m, " ");
+    put_condition(m, m->nodes[3 * node + 1]);
+    put(m, " ");
+    put_condition(m, m->nodes[3 * node + 2]);
+    put(m, ")");
+}
+
+static void by_calls(struct memory *m)
+{
+    static const uint32_t one[2] = {1, 0};
+    static const uint32_t zero[2] = {0, 1};
+    uint32_t a = 0, not_a = 0, place = 0;
+    uint32_t symbolic[2];
+    uint32_t answer[2] = {0, 0};
+
+    accept("fresh", md_fresh(m->record, 1, 1, m->nodes, NODE_WORDS));
+    accept("variable", md_variable(m->record, m->nodes, NODE_WORDS, 8, &a));
+    accept("ite", md_ite(m->record, m->nodes, NODE_WORDS, a, 0, 1, &not_a));
+
+    symbolic[0] = a;
+    symbolic[1] = not_a;
+    accept("write", md_write(m->record, m->nodes, NODE_WORDS, m->list, LIST_WORDS, one, 2, symbolic, 2, one, 2, &place));
+    put(m, "write ");
+    put_number(m, place);
+
+    accept("read", md_read(m->record, m->nodes, NODE_WORDS, m->list, LIST_WORDS, one, 2, zero, 2, answer, 2));
+    put(m, "\nread ");
+    put_condition(m, answer[0]);
+    put(m, ":");
+    put_condition(m, answer[1]);
+
+    accept("check", md_check(m->record, m->nodes, NODE_WORDS, m->list, LIST_WORDS, 1, zero, 2, one, 2));
+    put(m, "\ncheck ");
+    put_condition(m, m->record[MD_CHECKED]);
+
+    put(m, "\nend ");
+    put_number(m, m->record[MD_ENTRIES]);
+    put(m, "\n");
+}
+
+static void by_case(struct memory *m)
+{
+    uint64_t count = 0;
+    accept("case", md_case(CASE, sizeof CASE, m->nodes, NODE_WORDS, m->list, LIST_WORDS, (uint8_t *)m->text, TEXT_BYTES,
+                           m->record, &count));
+    m->length = (size_t)count;
+}
+
+static void hold_text(const char *way, const struct memory *m)
+{
+    if (m->length != strlen(EXPECTED) || memcmp(m->text, EXPECTED, m->length) != 0) {
+        printf("%s: the text is not the paper's, but:\n%.*s", way, (int)m->length, m->text);
+        failures++;
+    }
+}
+
+static void hold_words(const char *name, const uint32_t *one, const uint32_t *other, size_t length)
+{
+    if (memcmp(one, other, length * sizeof *one) != 0) {
+        printf("%s: the calls and the case file leave different words\n", name);
+        failures++;
+    }
+}
+
+/* The write went to location 1 where a holds, and to location 0 elsewhere: only there is 0 certain to have 1. */
+static void hold_values(const struct memory *m)
+{
+    uint32_t where_a = 9, where_not_a = 9;
+    accept("evaluate", md_evaluate(m->record, m->nodes, NODE_WORDS, m->record[MD_CHECKED], UINT64_C(1) << 8, &where_a));
+    accept("evaluate", md_evaluate(m->record, m->nodes, NODE_WORDS, m->record[MD_CHECKED], 0, &where_not_a));
+    if (where_a != 0 || where_not_a != 1) {
+        printf("the check condition is %u where variable 8 is 1, %u where it is 0\n", (unsigned)where_a,
+               (unsigned)where_not_a);
+        failures++;
+    }
+}
+
+int main(void)
+{
+    static struct memory calls, whole;
+
+    by_calls(&calls);
+    by_case(&whole);
+
+    hold_text("calls", &calls);
+    hold_text("case file", &whole);
+    hold_words("record", calls.record, whole.record, MD_RECORD);
+    hold_words("nodes", calls.nodes, whole.nodes, NODE_WORDS);
+    hold_words("list", calls.list, whole.list, LIST_WORDS);
+    hold_values(&calls);
+
+    printf("%.*s", (int)whole.length, whole.text);
+    return failures != 0;
+}
