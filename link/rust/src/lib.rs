@@ -1,0 +1,269 @@
+//! The symbolic memory model for simulators in Rust: safe calls over the archive of the proved functions.
+//!
+//! A condition is a node, a number; the nodes are three words each in a lent slice: variable, low
+//! child, high child. Node 0 is false, node 1 true. A pair of nodes `h, l` stands for a bit that may
+//! be 1 where `h` holds and 0 where `l` holds: `1, 0` is 1, `0, 1` is 0, `1, 1` is X. An address is n
+//! pairs, a data word w pairs, lowest bit first and `h` before `l`; an enable is one pair. The memory
+//! is a [`Record`], node words and list words together; they go from call to call as the last call
+//! left them.
+//!
+//! Any words may be lent. A call that the panel's table turns down answers [`Refused`] with the row's
+//! number and leaves record, nodes below the count, list and answer words as they were.
+//!
+//! ```
+//! use mangerday::Record;
+//!
+//! let (mut nodes, mut list) = ([0; 96], [0; 24]);
+//! let mut memory = Record::fresh(1, 1, &mut nodes)?;
+//! let a = memory.variable(&mut nodes, 8)?;
+//! let not_a = memory.ite(&mut nodes, a, 0, 1)?;
+//! // 1 is stored at location 1 where variable 8 is 1, and at location 0 where it is 0.
+//! let place = memory.write(&mut nodes, &mut list, &[1, 0], &[a, not_a], &[1, 0])?;
+//! assert_eq!(place, 0);
+//! // Location 0 may hold 1 in any case, and 0 where variable 8 is 1.
+//! let mut word = [0; 2];
+//! memory.read(&mut nodes, &list, &[1, 0], &[0, 1], &mut word)?;
+//! assert_eq!(word, [1, a]);
+//! # Ok::<(), mangerday::Refused>(())
+//! ```
+//!
+//! A call needs up to [`STACK`] bytes of stack and no heap; nothing is kept between calls.
+
+pub mod raw;
+
+use std::fmt;
+
+/// The stack that a call needs at most, in bytes, with some to spare.
+pub const STACK: usize = 1 << 20;
+
+/// A memory of `n` address bits and `w` data bits: its counts of nodes and entries, and its two conditions.
+///
+/// The fields are plain words, and a call refuses those that no memory has.
+#[repr(C)]
+#[derive(Clone, Copy, Debug, Default, PartialEq, Eq, Hash)]
+pub struct Record {
+    pub n: u32,
+    pub w: u32,
+    pub nodes: u32,
+    pub entries: u32,
+    pub asserted: u32,
+    pub checked: u32,
+}
+
+/// A refusal: the number of its row in the panel's table, 1 to 13.
+#[derive(Clone, Copy, Debug, PartialEq, Eq, Hash)]
+pub struct Refused(pub u32);
+
+/// A refused case: the row's number, and how many accesses were printed before.
+#[derive(Clone, Copy, Debug, PartialEq, Eq, Hash)]
+pub struct CaseRefused {
+    pub row: u32,
+    pub after: u64,
+}
+
+/// What became of an accepted assert.
+#[derive(Clone, Copy, Debug, PartialEq, Eq, Hash)]
+pub enum Asserted {
+    Entered,
+    Kept,
+}
+
+/// An accepted case: the length of its text, and the last record.
+#[derive(Clone, Copy, Debug, PartialEq, Eq, Hash)]
+pub struct Case {
+    pub length: usize,
+    pub record: Record,
+}
+
+impl fmt::Display for Refused {
+    fn fmt(&self, f: &mut fmt::Formatter<'_>) -> fmt::Result {
+        write!(f, "refused {}", self.0)
+    }
+}
+
+impl fmt::Display for CaseRefused {
+    fn fmt(&self, f: &mut fmt::Formatter<'_>) -> fmt::Result {
+        write!(f, "refused {} after {}", self.row, self.after)
+    }
+}
+
+impl std::error::Error for Refused {}
+impl std::error::Error for CaseRefused {}
+
+/// The answer of a call that returned this number.
+fn answer<T>(row: u32, accepted: T) -> Result<T, Refused> {
+    if row == 0 {
+        Ok(accepted)
+    } else {
+        Err(Refused(row))
+    }
+}
+
+// A Rust slice, also an empty one, has a pointer that is aligned and not null, and what is borrowed
+// by `&mut` overlaps nothing else that is lent: so each call below meets what the functions ask.
+impl Record {
+    /// A memory of `n` address bits, 1 to 8, and `w` data bits, 1 to 16: no entries, both conditions 1,
+    /// and nodes 0 and 1 written into the node words, which are at least 6. Meets 1 and 2.
+    pub fn fresh(n: u32, w: u32, nodes: &mut [u32]) -> Result<Record, Refused> {
+        let mut record = Record::default();
+        let row = unsafe { raw::md_fresh(&mut record, n, w, nodes.as_mut_ptr(), nodes.len()) };
+        answer(row, record)
+    }
+
+    /// The value of a node under an assignment, in which bit v is variable v. Meets 1, 2 and 5.
+    pub fn evaluate(&self, nodes: &[u32], node: u32, assignment: u64) -> Result<bool, Refused> {
+        let mut value = 0;
+        let row = unsafe { raw::md_evaluate(self, nodes.as_ptr(), nodes.len(), node, assignment, &mut value) };
+        answer(row, value == 1)
+    }
+
+    /// The node of a user variable, 8 to 63. Meets 1, 2, 5 and 9.
+    pub fn variable(&mut self, nodes: &mut [u32], variable: u32) -> Result<u32, Refused> {
+        let mut node = 0;
+        let row = unsafe { raw::md_variable(self, nodes.as_mut_ptr(), nodes.len(), variable, &mut node) };
+        answer(row, node)
+    }
+
+    /// The node that is `g` where `f` holds and `h` elsewhere. Meets 1, 2, 5 and 9.
+    pub fn ite(&mut self, nodes: &mut [u32], f: u32, g: u32, h: u32) -> Result<u32, Refused> {
+        let mut node = 0;
+        let row = unsafe { raw::md_ite(self, nodes.as_mut_ptr(), nodes.len(), f, g, h, &mut node) };
+        answer(row, node)
+    }
+
+    /// Write: appends an entry and answers its place, counted from 0. Meets 1 to 6, 8 and 9.
+    pub fn write(
+        &mut self,
+        nodes: &mut [u32],
+        list: &mut [u32],
+        enable: &[u32],
+        address: &[u32],
+        data: &[u32],
+    ) -> Result<u32, Refused> {
+        let mut place = 0;
+        let row = unsafe {
+            raw::md_write(
+                self,
+                nodes.as_mut_ptr(),
+                nodes.len(),
+                list.as_mut_ptr(),
+                list.len(),
+                enable.as_ptr(),
+                enable.len(),
+                address.as_ptr(),
+                address.len(),
+                data.as_ptr(),
+                data.len(),
+                &mut place,
+            )
+        };
+        answer(row, place)
+    }
+
+    /// Read: fills the 2w words of `word`, each bit's h before its l. Meets 1 to 6 and 9.
+    pub fn read(
+        &mut self,
+        nodes: &mut [u32],
+        list: &[u32],
+        enable: &[u32],
+        address: &[u32],
+        word: &mut [u32],
+    ) -> Result<(), Refused> {
+        let row = unsafe {
+            raw::md_read(
+                self,
+                nodes.as_mut_ptr(),
+                nodes.len(),
+                list.as_ptr(),
+                list.len(),
+                enable.as_ptr(),
+                enable.len(),
+                address.as_ptr(),
+                address.len(),
+                word.as_mut_ptr(),
+                word.len(),
+            )
+        };
+        answer(row, ())
+    }
+
+    /// Assert: narrows the assert condition, and enters the data or keeps what is there. Meets 1 to 9.
+    pub fn assert(
+        &mut self,
+        nodes: &mut [u32],
+        list: &mut [u32],
+        b: u32,
+        address: &[u32],
+        data: &[u32],
+    ) -> Result<Asserted, Refused> {
+        let mut entered = 0;
+        let row = unsafe {
+            raw::md_assert(
+                self,
+                nodes.as_mut_ptr(),
+                nodes.len(),
+                list.as_mut_ptr(),
+                list.len(),
+                b,
+                address.as_ptr(),
+                address.len(),
+                data.as_ptr(),
+                data.len(),
+                &mut entered,
+            )
+        };
+        answer(row, if entered == 1 { Asserted::Entered } else { Asserted::Kept })
+    }
+
+    /// Check: narrows the check condition to where the data admits what the memory may hold. Meets 1 to 6 and 9.
+    pub fn check(
+        &mut self,
+        nodes: &mut [u32],
+        list: &[u32],
+        b: u32,
+        address: &[u32],
+        data: &[u32],
+    ) -> Result<(), Refused> {
+        let row = unsafe {
+            raw::md_check(
+                self,
+                nodes.as_mut_ptr(),
+                nodes.len(),
+                list.as_ptr(),
+                list.len(),
+                b,
+                address.as_ptr(),
+                address.len(),
+                data.as_ptr(),
+                data.len(),
+            )
+        };
+        answer(row, ())
+    }
+}
+
+/// A case file, run from its first byte to its last: its text is written into `text`. A refused case
+/// leaves node words, list words and text bytes all 0, and meets any row but 3 and 4.
+pub fn case(bytes: &[u8], nodes: &mut [u32], list: &mut [u32], text: &mut [u8]) -> Result<Case, CaseRefused> {
+    let mut record = Record::default();
+    let mut count = 0;
+    let row = unsafe {
+        raw::md_case(
+            bytes.as_ptr(),
+            bytes.len(),
+            nodes.as_mut_ptr(),
+            nodes.len(),
+            list.as_mut_ptr(),
+            list.len(),
+            text.as_mut_ptr(),
+            text.len(),
+            &mut record,
+            &mut count,
+        )
+    };
+    if row == 0 {
+        Ok(Case { length: count as usize, record })
+    } else {
+        Err(CaseRefused { row, after: count })
+    }
+}
