@@ -84,13 +84,14 @@ fn compare(tally: &mut Tally, rng: &mut Random, call: &Call, before: &State) -> 
     expected
 }
 
-/// The call with every capacity from the count to what it needs: 9 exactly where that is not enough.
+/// The call with the capacities from the count to what it needs, all or some: 9 exactly where that is not enough.
 fn compare_capacities(tally: &mut Tally, rng: &mut Random, call: &Call, before: &State, after: &Left) {
-    let (least, needed) = (before.record[2] as usize, after.state.record[2] as usize);
-    if after.number != 0 || matches!(call, Call::Fresh { .. }) || needed - least > 60 {
+    if after.number != 0 || matches!(call, Call::Fresh { .. }) {
         return;
     }
-    for nodes in least..=needed {
+    let (least, needed) = (before.record[2] as usize, after.state.record[2] as usize);
+    let step = 1 + (needed - least) / 40;
+    for nodes in (least..=needed).rev().step_by(step) {
         let mut small = before.clone();
         small.nodes.truncate(3 * nodes + rng.below(3));
         let left = compare(tally, rng, call, &small);
@@ -189,10 +190,10 @@ fn large_list(tally: &mut Tally, rng: &mut Random, entries: usize) {
 #[test]
 fn every_call_is_the_papers() {
     let mut tally = Tally::default();
-    for seed in 0..1500 {
+    for seed in 0..4000 {
         chain(&mut tally, &mut Random::new(seed));
     }
-    for seed in 0..3000 {
+    for seed in 0..6000 {
         any_memory(&mut tally, &mut Random::new(10_000 + seed));
     }
     for seed in 0..20_000 {
@@ -231,7 +232,7 @@ fn compare_case(tally: &mut Tally, rng: &mut Random, lent: &Lent) -> CaseLeft {
 #[test]
 fn every_case_is_the_papers() {
     let mut tally = Tally::default();
-    for seed in 0..8000 {
+    for seed in 0..12_000 {
         let mut rng = Random::new(70_000 + seed);
         let lent = case(&mut rng);
         compare_case(&mut tally, &mut rng, &lent);

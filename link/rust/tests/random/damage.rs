@@ -90,11 +90,16 @@ fn damage_one(rng: &mut Random, words: &mut [&mut u32], state: &State) {
     *words[place] = other_node(rng, state);
 }
 
-/// One slice with a word changed, or of another length.
+/// One slice with a word or a pair changed, or of another length.
 fn damage_slice(rng: &mut Random, slices: &mut [&mut Vec<u32>], state: &State) {
     let place = rng.below(slices.len());
     let slice = &mut *slices[place];
-    if rng.chance(70) && !slice.is_empty() {
+    if rng.chance(30) && !slice.is_empty() {
+        // A pair that is neither where a node does not hold.
+        let at = rng.below(slice.len().div_ceil(2)) * 2;
+        let node = if rng.chance(30) { 0 } else { other_node(rng, state) };
+        slice[at..].iter_mut().take(2).for_each(|half| *half = node);
+    } else if rng.chance(70) && !slice.is_empty() {
         let at = rng.below(slice.len());
         slice[at] = other_node(rng, state);
     } else {
