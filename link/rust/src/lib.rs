@@ -27,6 +27,14 @@
 //! # Ok::<(), mangerday::Refused>(())
 //! ```
 //!
+//! What is lent to a call cannot overlap, since Rust refuses it:
+//!
+//! ```compile_fail,E0499
+//! # let mut memory = mangerday::Record::default();
+//! # let mut words = [0; 96];
+//! memory.write(&mut words[..], &mut words[..], &[1, 0], &[1, 0], &[1, 0]);
+//! ```
+//!
 //! A call needs up to [`STACK`] bytes of stack and no heap; nothing is kept between calls.
 
 pub mod raw;

@@ -14,13 +14,8 @@ extern "C" {
         value: *mut u32,
     ) -> u32;
 
-    pub fn md_variable(
-        record: *mut Record,
-        nodes: *mut u32,
-        nodes_length: usize,
-        variable: u32,
-        node: *mut u32,
-    ) -> u32;
+    pub fn md_variable(record: *mut Record, nodes: *mut u32, nodes_length: usize, variable: u32, node: *mut u32)
+        -> u32;
 
     pub fn md_ite(
         record: *mut Record,

@@ -112,16 +112,14 @@ pub fn run_safely(call: &Call, before: &State) -> Left {
         Call::Evaluate { node, assignment } => after.evaluate(&nodes, *node, *assignment).map(|x| Some(x as u32)),
         Call::Variable { variable } => after.variable(&mut nodes, *variable).map(Some),
         Call::Ite { f, g, h } => after.ite(&mut nodes, *f, *g, *h).map(Some),
-        Call::Write { enable, address, data } => {
-            after.write(&mut nodes, &mut list, enable, address, data).map(Some)
-        }
+        Call::Write { enable, address, data } => after.write(&mut nodes, &mut list, enable, address, data).map(Some),
         Call::Read { enable, address, answer } => {
             word.clone_from(answer);
             after.read(&mut nodes, &list, enable, address, &mut word).map(|()| None)
         }
-        Call::Assert { b, address, data } => after
-            .assert(&mut nodes, &mut list, *b, address, data)
-            .map(|x| Some((x == Asserted::Entered) as u32)),
+        Call::Assert { b, address, data } => {
+            after.assert(&mut nodes, &mut list, *b, address, data).map(|x| Some((x == Asserted::Entered) as u32))
+        }
         Call::Check { b, address, data } => after.check(&mut nodes, &list, *b, address, data).map(|()| None),
     };
     let (number, out) = match answer {

@@ -125,14 +125,7 @@ impl Store {
     }
 
     /// Assert(b,a,d) up to where its entry may be needed.
-    pub fn assert(
-        &mut self,
-        entries: &[Entry],
-        before: u32,
-        b: u32,
-        a: &[u32],
-        d: &[u32],
-    ) -> Result<Asserted, Full> {
+    pub fn assert(&mut self, entries: &[Entry], before: u32, b: u32, a: &[u32], d: &[u32]) -> Result<Asserted, Full> {
         let r = self.look(entries, a, d.len() / 2)?;
         let within = self.inside(d, &r)?;
         let not = self.not(b)?;

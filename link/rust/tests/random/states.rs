@@ -69,7 +69,14 @@ fn child(rng: &mut Random, nodes: &[Node], variable: u32) -> u32 {
 }
 
 /// A memory with these nodes, whose entries and conditions are any user nodes.
-pub fn memory(rng: &mut Random, shape: &Shape, nodes: &[Node], entries: usize, more_nodes: usize, more_list: usize) -> State {
+pub fn memory(
+    rng: &mut Random,
+    shape: &Shape,
+    nodes: &[Node],
+    entries: usize,
+    more_nodes: usize,
+    more_list: usize,
+) -> State {
     let users: Vec<u32> = (0..nodes.len() as u32).filter(|x| nodes[*x as usize][0] >= FIRST_USER).collect();
     let mut list: Vec<u32> = (0..entries * shape.entry()).map(|_| rng.pick(&users)).collect();
     list.extend(rng.words(more_list));
