@@ -80,8 +80,8 @@ uint32_t md_write(uint32_t record[MD_RECORD], uint32_t *nodes, size_t nodes_leng
                   const uint32_t *enable, size_t enable_length, const uint32_t *address, size_t address_length,
                   const uint32_t *data, size_t data_length, uint32_t *place);
 
-/* A read under an enable pair: fills 2w answer words, each bit's h before its l, with what every
-   plain memory could return; an enable that is not certainly 1 gives all X. Meets 1 to 6 and 9. */
+/* A read under an enable pair: fills 2w answer words, each bit's h before its l, with exactly what
+   plain memories may return; an enable that is not certainly 1 gives all X. Meets 1 to 6 and 9. */
 uint32_t md_read(uint32_t record[MD_RECORD], uint32_t *nodes, size_t nodes_length, const uint32_t *list,
                  size_t list_length, const uint32_t *enable, size_t enable_length, const uint32_t *address,
                  size_t address_length, uint32_t *answer, size_t answer_length);

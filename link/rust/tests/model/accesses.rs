@@ -3,24 +3,22 @@
 use super::diagrams::{Built, Full, Store, TRUE};
 
 /// An entry of the list: h, s, address, data.
-#[derive(Clone, Debug)]
-pub struct Entry {
+pub struct Entry<'a> {
     pub h: u32,
     pub s: u32,
-    pub address: Vec<u32>,
-    pub data: Vec<u32>,
+    pub address: &'a [u32],
+    pub data: &'a [u32],
 }
 
-impl Entry {
-    /// The entry at a place of the list.
-    pub fn at(list: &[u32], place: usize, n: usize, w: usize) -> Entry {
-        let words = &list[place * size(n, w)..][..size(n, w)];
+impl Entry<'_> {
+    /// The entry of these words.
+    pub fn of(words: &[u32], n: usize) -> Entry<'_> {
         let (address, data) = words[2..].split_at(2 * n);
-        Entry { h: words[0], s: words[1], address: address.to_vec(), data: data.to_vec() }
+        Entry { h: words[0], s: words[1], address, data }
     }
 
     pub fn words(&self) -> Vec<u32> {
-        [&[self.h, self.s][..], &self.address, &self.data].concat()
+        [&[self.h, self.s], self.address, self.data].concat()
     }
 }
 
@@ -47,7 +45,7 @@ impl Store {
     }
 
     /// Write(c,a,d): the entry that is appended.
-    pub fn write(&mut self, c: (u32, u32), a: &[u32], d: &[u32]) -> Result<Entry, Full> {
+    pub fn write<'a>(&mut self, c: (u32, u32), a: &'a [u32], d: &'a [u32]) -> Result<Entry<'a>, Full> {
         let hard = self.hard(c.0, c.1)?;
         let mut u = TRUE;
         for (h, l) in pairs(a) {
@@ -60,7 +58,7 @@ impl Store {
         let several = self.not(u)?;
         let spread = self.and(hard, several)?;
         let s = self.or(x, spread)?;
-        Ok(Entry { h, s, address: a.to_vec(), data: d.to_vec() })
+        Ok(Entry { h, s, address: a, data: d })
     }
 
     /// "for each bit i, in = And(in, Ite(index i, a.h, a.l))"
@@ -78,10 +76,10 @@ impl Store {
         let inside = self.narrow(TRUE, a)?;
         let mut r = vec![TRUE; 2 * w];
         for entry in entries {
-            let m = self.narrow(inside, &entry.address)?;
+            let m = self.narrow(inside, entry.address)?;
             let hm = self.and(m, entry.h)?;
             let sm = self.and(m, entry.s)?;
-            for (half, &e) in r.iter_mut().zip(&entry.data) {
+            for (half, &e) in r.iter_mut().zip(entry.data) {
                 let either = self.or(e, *half)?;
                 let soft = self.ite(sm, either, *half)?;
                 *half = self.ite(hm, e, soft)?;

@@ -52,10 +52,10 @@ pub struct Left {
 }
 
 /// What an accepted call changes, before it is written back.
-struct Done {
+struct Done<'a> {
     store: Store,
     record: Record,
-    entry: Option<Entry>,
+    entry: Option<Entry<'a>>,
     answer: Option<Vec<u32>>,
     out: Option<u32>,
 }
@@ -91,7 +91,7 @@ pub fn run(call: &Call, before: &State) -> Left {
 }
 
 /// "Success changes no older node or entry and no word past the new count."
-fn write_back(left: &mut Left, before: &State, done: Done) {
+fn write_back(left: &mut Left, before: &State, done: Done<'_>) {
     for (number, node) in done.store.nodes.iter().enumerate() {
         left.state.nodes[3 * number..][..3].copy_from_slice(node);
     }
@@ -105,7 +105,7 @@ fn write_back(left: &mut Left, before: &State, done: Done) {
     left.out = done.out;
 }
 
-fn step(call: &Call, before: &State) -> Result<Done, Down> {
+fn step<'a>(call: &'a Call, before: &State) -> Result<Done<'a>, Down> {
     match call {
         Call::Fresh { n, w } => fresh(before, *n, *w),
         Call::Evaluate { node, assignment } => evaluate(before, *node, *assignment),
@@ -135,7 +135,7 @@ fn refuse(number: u32, refuses: bool) -> Result<(), Down> {
 }
 
 /// An accepted call that appends no entry.
-fn done(store: Store, record: Record) -> Done {
+fn done<'a>(store: Store, record: Record) -> Done<'a> {
     Done { store, record, entry: None, answer: None, out: None }
 }
 
@@ -148,12 +148,12 @@ fn store(before: &State) -> Result<Store, Down> {
 }
 
 /// Rows 1 to 4, the nodes and the entries; `pairs` are the lent slices, each with how many pairs it must have.
-fn memory(before: &State, pairs: &[(&[u32], u32)]) -> Result<(Store, Vec<Entry>), Down> {
+fn memory<'a>(before: &'a State, pairs: &[(&[u32], u32)]) -> Result<(Store, Vec<Entry<'a>>), Down> {
     let store = store(before)?;
     refuse(3, row3(&before.record, &store.nodes, &before.list))?;
     refuse(4, pairs.iter().any(|(slice, many)| slice.len() != 2 * *many as usize))?;
     let [n, w, _, entries, ..] = before.record.map(|x| x as usize);
-    let entries = (0..entries).map(|place| Entry::at(&before.list, place, n, w)).collect();
+    let entries = before.list.chunks_exact(size(n, w)).take(entries).map(|words| Entry::of(words, n)).collect();
     Ok((store, entries))
 }
 
@@ -165,13 +165,13 @@ fn counted(record: &Record, store: &Store) -> Record {
 }
 
 /// "Fresh: counts 2 and 0, both conditions 1, and the two terminals written."
-fn fresh(before: &State, n: u32, w: u32) -> Result<Done, Down> {
+fn fresh<'a>(before: &State, n: u32, w: u32) -> Result<Done<'a>, Down> {
     refuse(1, row1(n, w))?;
     refuse(2, before.nodes.len() < 6)?;
     Ok(done(Store::new(TERMINALS.to_vec(), 2), [n, w, 2, 0, 1, 1]))
 }
 
-fn evaluate(before: &State, node: u32, assignment: u64) -> Result<Done, Down> {
+fn evaluate<'a>(before: &State, node: u32, assignment: u64) -> Result<Done<'a>, Down> {
     let store = store(before)?;
     refuse(5, node as usize >= store.nodes.len())?;
     let value = match Tables::of(&store.nodes, [node]) {
@@ -191,13 +191,13 @@ fn walk(store: &Store, mut node: u32, assignment: u64) -> bool {
 }
 
 /// A call that answers the node that it builds.
-fn node(before: &State, mut store: Store, build: impl FnOnce(&mut Store) -> Built) -> Result<Done, Down> {
+fn node<'a>(before: &State, mut store: Store, build: impl FnOnce(&mut Store) -> Built) -> Result<Done<'a>, Down> {
     let out = build(&mut store)?;
     let record = counted(&before.record, &store);
     Ok(Done { out: Some(out), ..done(store, record) })
 }
 
-fn write(before: &State, enable: &[u32], address: &[u32], data: &[u32]) -> Result<Done, Down> {
+fn write<'a>(before: &State, enable: &[u32], address: &'a [u32], data: &'a [u32]) -> Result<Done<'a>, Down> {
     let [n, w, _, place, ..] = before.record;
     let (mut store, _) = memory(before, &[(enable, 1), (address, n), (data, w)])?;
     let pairs = [enable, address, data].concat();
@@ -210,7 +210,7 @@ fn write(before: &State, enable: &[u32], address: &[u32], data: &[u32]) -> Resul
     Ok(Done { entry: Some(entry), out: Some(place), ..done(store, record) })
 }
 
-fn read(before: &State, enable: &[u32], address: &[u32], answer: &[u32]) -> Result<Done, Down> {
+fn read<'a>(before: &State, enable: &[u32], address: &[u32], answer: &[u32]) -> Result<Done<'a>, Down> {
     let [n, w, ..] = before.record;
     let (mut store, entries) = memory(before, &[(enable, 1), (address, n), (answer, w)])?;
     let pairs = [enable, address].concat();
@@ -228,7 +228,7 @@ fn rows56(store: &Store, b: u32, address: &[u32], data: &[u32]) -> Result<(), Do
     refuse(6, row6(&store.nodes, &pairs))
 }
 
-fn check(before: &State, b: u32, address: &[u32], data: &[u32]) -> Result<Done, Down> {
+fn check<'a>(before: &State, b: u32, address: &[u32], data: &[u32]) -> Result<Done<'a>, Down> {
     let [n, w, ..] = before.record;
     let (mut store, entries) = memory(before, &[(address, n), (data, w)])?;
     rows56(&store, b, address, data)?;
@@ -238,7 +238,7 @@ fn check(before: &State, b: u32, address: &[u32], data: &[u32]) -> Result<Done, 
     Ok(done(store, record))
 }
 
-fn assert(before: &State, b: u32, address: &[u32], data: &[u32]) -> Result<Done, Down> {
+fn assert<'a>(before: &State, b: u32, address: &'a [u32], data: &'a [u32]) -> Result<Done<'a>, Down> {
     let [n, w, _, place, ..] = before.record;
     let (mut store, entries) = memory(before, &[(address, n), (data, w)])?;
     rows56(&store, b, address, data)?;
