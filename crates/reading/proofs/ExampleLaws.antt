@@ -11,7 +11,7 @@ use Rattle.reading.specs.declared.Kind.the-variants.{Write, Read, Check}
 use Rattle.reading.specs.Bytes.{numberAt, numbersAt}
 use Rattle.reading.specs.Kinds.{kindOf, sizeOf}
 use Rattle.reading.specs.Accesses as accesses
-use Rattle.reading.specs.Accesses.{accessAt, found}
+use Rattle.reading.specs.Accesses.{accessAt, found, goesOn}
 use Rattle.reading.specs.Sections.{withNodes, sections, ready, refused}
 
 abbrev example : List ℕ
@@ -39,6 +39,11 @@ example-read = (refl, refl)
 example-check : (accessAt example 38 1 1 ≡ found Check 39 49) × (numbersAt example 39 5 ≡ 1 ∷ 0 ∷ 1 ∷ 1 ∷ 0 ∷ [])
 unfolding accessAt kindOf sizeOf numbersAt numberAt
 example-check = (refl, refl)
+
+-- from each access the reading goes on to the next; where none stands it stays
+example-goes-on : (goesOn (accessAt example 16 1 1) 16 ≡ 29) × (goesOn (accessAt example 29 1 1) 29 ≡ 38) × (goesOn (accessAt example 49 1 1) 49 ≡ 49)
+unfolding accessAt kindOf sizeOf
+example-goes-on = (refl, refl, refl)
 
 -- row 1: n=9. Row 2: 5 words. Row 10: an empty file. Row 11: kind 0
 n-nine : sections (9 ∷ 1 ∷ []) [] ≡ ([], refused 1)

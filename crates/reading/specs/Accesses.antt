@@ -43,3 +43,8 @@ foundUnless (suc k) x = refused (suc k)
 -- the access at a place, for n and w
 unfoldable pub accessAt : List ℕ → ℕ → ℕ → ℕ → Found
 accessAt file at n w = foundUnless (firstRow (accessRows file at n w)) (found (kindAt file at) (at + 1) (endOf file at n w))
+
+-- "A reading of the case file goes on from the byte after the last access"; where none stands, from where it was
+abbrev pub goesOn : Found → ℕ → ℕ
+goesOn (found kind from next) at = next
+goesOn (refused k) at = at

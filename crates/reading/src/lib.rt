@@ -2,13 +2,18 @@
 mod accesses;
 mod bytes;
 mod kinds;
+mod reader;
 mod sections;
 
-pub use accesses::access_at;
 pub use bytes::number_at;
 pub use bytes::read_numbers;
 pub use kinds::kind_of;
 pub use kinds::operands;
+pub use reader::Advance;
+pub use reader::Reader;
+pub use reader::access_at;
+pub use reader::begin;
+pub use reader::next;
 pub use sections::load_sections;
 
 // What the kind byte of an access selects.

@@ -3,8 +3,8 @@ use Rattle.reading.proofs.AccessLaws.{no-kind, kind-unknown, ends-early
 use Rattle.reading.proofs.KindLaws.{size-most}
 use native.Mathlib.Omega.{arith}
 use borrow.Author.Needs.{needs}
-use Rattle.reading.proofs.accesses.access_at.Statement.{statement}
-use Rattle.reading.proofs.accesses.access_at.Tie as tie
+use Rattle.reading.proofs.accesses.find_access.Statement.{statement}
+use Rattle.reading.proofs.accesses.find_access.Tie as tie
 
 returns : tie.Need-returns
 returns c = no-kind (now (c .before .before .args .bytes)) (c .before .before .args .at) (c .before .before .args .n) (c .before .before .args .w) (omega arith)
@@ -42,8 +42,8 @@ add-t8 c = search needs
 returns-4 : tie.Need-returns-4
 returns-4 c = stands _ _ _ _ (c .before .before .before .before .before .before .if1 .left) (c .before .before .before .before .kind-of .ensures) (c .before .before .before .is-known .ensures) (c .before .before .if2 .left) (c .before .operands .ensures) (c .if3 .left)
 
-pub access-at-spec : {M : Type 1} → statement M
-access-at-spec =
+pub find-access-spec : {M : Type 1} → statement M
+find-access-spec =
     tie.close
     (tie.spec
     returns

@@ -1,0 +1,44 @@
+// A reading of a case file: a thin struct over the functions on slices.
+ghost use mathlib.Core.Path.{_≡_};
+ghost use Rattle.reading.specs.Accesses.{foundOf, accessAt, goesOn};
+use super::Access;
+use super::accesses;
+
+// The lent bytes, and the byte with which the next access begins.
+pub struct Reader<'a> {
+    pub bytes: &'a [u8],
+    pub at: usize,
+}
+
+// An access, and the reader that goes on from the byte after it.
+pub struct Advance<'a> {
+    pub access: Access,
+    pub rest: Reader<'a>,
+}
+
+// A reading that goes on from a byte.
+pub fn begin<'a>(bytes: &'a [u8], at: usize) -> Reader<'a>
+    ensures { λ r. ⌜ (r .bytes ≡ bytes .entry) × (r .at ≡ at) ⌝ }
+{
+    Reader { bytes, at }
+}
+
+// The next access, for a memory of n address bits and w data bits.
+pub fn next<'a>(r: Reader<'a>, n: u32, w: u32) -> Advance<'a>
+    ensures { λ a. ⌜ (foundOf (a .access) ≡ accessAt (now (r .entry .bytes)) (r .entry .at) n w) × (a .rest .bytes ≡ r .entry .bytes) × (a .rest .at ≡ goesOn (accessAt (now (r .entry .bytes)) (r .entry .at) n w) (r .entry .at)) ⌝ }
+{
+    let access = accesses::find_access(r.bytes, r.at, n, w);
+    let at = accesses::end_of(access, r.at);
+    Advance {
+        access,
+        rest: Reader { bytes: r.bytes, at },
+    }
+}
+
+// The access at a place, by a reading that goes on from there. Over a plain slice: its callers hold no reader.
+pub fn access_at(bytes: &[u8], at: usize, n: u32, w: u32) -> Access
+    ensures { λ r. ⌜ foundOf r ≡ accessAt (now (bytes .entry)) at n w ⌝ }
+{
+    let a = next(begin(bytes, at), n, w);
+    a.access
+}
