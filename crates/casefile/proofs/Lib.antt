@@ -1,5 +1,5 @@
 pub mod WordLaws
-pub mod CameLaws
+pub mod StepLaws
 pub mod RestLaws
 pub mod ZeroLaws
 pub mod CaseLaws

@@ -26,12 +26,12 @@ use Rattle.reading.specs.Sections.{Sections, sectionsOf, firstRecord, sections}
 use Rattle.reading.proofs.SectionLaws.{sections-ready, sections-valid}
 use Rattle.conditions.proofs.Promises.{zeros-sound}
 use Rattle.casefile.specs.declared.Run.{Run}
-use Rattle.casefile.specs.declared.Went.{Went}
-use Rattle.casefile.specs.declared.Went.the-variants as went
+use Rattle.casefile.specs.declared.Step.{Step}
+use Rattle.casefile.specs.declared.Step.the-variants as steps
 use Rattle.casefile.specs.declared.CaseAnswer.{CaseAnswer}
 use Rattle.casefile.specs.declared.CaseAnswer.the-variants as answer
 use Rattle.casefile.specs.Case.{Running, stops, callOf, done, doneAs, one, Ended, ended, stopped, lastPrinted, last, after, rest, afterSections, whole, refuses, zeroed, closed, caseOf}
-use Rattle.casefile.specs.Contract.{runningOf, nextOf, endedOf, caseAs, Ready, ReadyNext, Came}
+use Rattle.casefile.specs.Contract.{runningOf, nextOf, endedOf, caseAs, Ready, ReadyNext, StepAs}
 
 -- the last line: 12 comes before it
 module _ (file : List ℕ) (k : ℕ) (c : Running) where
@@ -58,16 +58,16 @@ module _ (file : List ℕ) (k : ℕ) (c : Run) (w l b : List ℕ) where
     end-fits e = sym (last-is ∙ ap (λ (f : Bool). cond f (stopped 13 k) (ended (stateOf (c .memory) w l) (out b′ (record { at = t .at; full = f })))) e)
 
 -- one access of those that are left
-module _ (file : List ℕ) (n i : ℕ) (h : i < n) (c : Running) (w l b : List ℕ) (r : Went) (f : nextOf r w l b ≡ one file c) where
+module _ (file : List ℕ) (n i : ℕ) (h : i < n) (c : Running) (w l b : List ℕ) (r : Step) (f : nextOf r w l b ≡ one file c) where
   rest-next : rest file (n - i) i c ≡ after (nextOf r w l b) i (rest file (n - (i + 1)) (i + 1))
   unfolding rest
   rest-next = let e : n - i ≡ suc (n - (i + 1)) = omega arith in rw (e, f, add-one i)
 
-  pub rest-goes : {c′ : Run} → r ≡ went.On c′ → rest file (n - (i + 1)) (i + 1) (runningOf c′ w l b) ≡ rest file (n - i) i c
-  rest-goes e = sym (rest-next ∙ ap (λ (x : Went). after (nextOf x w l b) i (rest file (n - (i + 1)) (i + 1))) e)
+  pub rest-goes : {c′ : Run} → r ≡ steps.On c′ → rest file (n - (i + 1)) (i + 1) (runningOf c′ w l b) ≡ rest file (n - i) i c
+  rest-goes e = sym (rest-next ∙ ap (λ (x : Step). after (nextOf x w l b) i (rest file (n - (i + 1)) (i + 1))) e)
 
-  pub rest-stops : {k : ℕ} → r ≡ went.Refused k → stopped k i ≡ rest file (n - i) i c
-  rest-stops e = sym (rest-next ∙ ap (λ (x : Went). after (nextOf x w l b) i (rest file (n - (i + 1)) (i + 1))) e)
+  pub rest-stops : {k : ℕ} → r ≡ steps.Refused k → stopped k i ≡ rest file (n - i) i c
+  rest-stops e = sym (rest-next ∙ ap (λ (x : Step). after (nextOf x w l b) i (rest file (n - (i + 1)) (i + 1))) e)
 
 -- none is left
 pub rest-none : (file : List ℕ) (n i : ℕ) (c : Running) → n ≤ i → rest file (n - i) i c ≡ last file i c
@@ -88,11 +88,11 @@ module _ (file : List ℕ) (c : Running) {f : Access} where
   unfolding one
   one-here e g = ap (λ (x : Found). doneAs file x (c .state) (c .text)) (sym (ap foundOf e) ∙ g)
 
-  pub came-here : {k : Kind} {from next : ℕ} → f ≡ access.Here k from next → foundOf f ≡ accessAt file (c .at) (c .state .rec .n) (c .state .rec .w)
-      → (size : ℕ) → size ≡ sizeOf k (c .state .rec .n) (c .state .rec .w) → {r : Went} {w l b table : List ℕ}
-      → Came r w l b table (done (callOf k (c .state .rec .n) (c .state .rec .w) (numbersAt file from size)) (c .state) next (c .text)) → Came r w l b table (one file c)
-  came-here {k} {from} {next} e g size z {r} {w} {l} {b} {table} C =
-      subst (Came r w l b table) (ap (λ (i : ℕ). done (callOf k (c .state .rec .n) (c .state .rec .w) (numbersAt file from i)) (c .state) next (c .text)) z ∙ one-here e g) C
+  pub step-here : {k : Kind} {from next : ℕ} → f ≡ access.Here k from next → foundOf f ≡ accessAt file (c .at) (c .state .rec .n) (c .state .rec .w)
+      → (size : ℕ) → size ≡ sizeOf k (c .state .rec .n) (c .state .rec .w) → {r : Step} {w l b table : List ℕ}
+      → StepAs r w l b table (done (callOf k (c .state .rec .n) (c .state .rec .w) (numbersAt file from size)) (c .state) next (c .text)) → StepAs r w l b table (one file c)
+  step-here {k} {from} {next} e g size z {r} {w} {l} {b} {table} C =
+      subst (StepAs r w l b table) (ap (λ (i : ℕ). done (callOf k (c .state .rec .n) (c .state .rec .w) (numbersAt file from i)) (c .state) next (c .text)) z ∙ one-here e g) C
 
 -- what the loop over the accesses keeps: i are done, and the rest from here is the rest from the start
 pub record Done (file : List ℕ) (n : ℕ) (x : Ended) (w l table b : List ℕ) (c : Run) (i : ℕ) : Type 0 where
@@ -104,15 +104,15 @@ pub done-none : (file : List ℕ) (n : ℕ) (c : Run) (w l table b : List ℕ) �
 done-none file n c w l table b R = record { most = omega arith; ready = R; is = ap (λ (k : ℕ). rest file k 0 (runningOf c w l b)) (sub-zero n) }
 
 module _ {file : List ℕ} {n : ℕ} {x : Ended} {w l table b : List ℕ} {c : Run} {i : ℕ} (D : Done file n x w l table b c i) where
-  pub done-more : i < n → {r : Went} {w′ l′ table′ b′ : List ℕ} {c′ : Run} → r ≡ went.On c′ → Came r w′ l′ b′ table′ (one file (runningOf c w l b)) → Done file n x w′ l′ table′ b′ c′ (i + 1)
+  pub done-more : i < n → {r : Step} {w′ l′ table′ b′ : List ℕ} {c′ : Run} → r ≡ steps.On c′ → StepAs r w′ l′ b′ table′ (one file (runningOf c w l b)) → Done file n x w′ l′ table′ b′ c′ (i + 1)
   done-more h {r} {w′} {l′} {table′} {b′} e C =
       record {
         most = omega arith;
-        ready = subst (λ (y : Went). ReadyNext y w′ l′ table′) e (C .ready);
+        ready = subst (λ (y : Step). ReadyNext y w′ l′ table′) e (C .ready);
         is = rest-goes file n i h (runningOf c w l b) w′ l′ b′ r (C .is) e ∙ D .is;
       }
 
-  pub done-stop : i < n → {r : Went} {w′ l′ table′ b′ : List ℕ} {k : ℕ} → r ≡ went.Refused k → Came r w′ l′ b′ table′ (one file (runningOf c w l b)) → stopped k i ≡ x
+  pub done-stop : i < n → {r : Step} {w′ l′ table′ b′ : List ℕ} {k : ℕ} → r ≡ steps.Refused k → StepAs r w′ l′ b′ table′ (one file (runningOf c w l b)) → stopped k i ≡ x
   done-stop h {r} {w′} {l′} {b′ = b′} e C = rest-stops file n i h (runningOf c w l b) w′ l′ b′ r (C .is) e ∙ D .is
 
   pub done-all : n ≤ i → {y : Ended} → y ≡ last file i (runningOf c w l b) → y ≡ x

@@ -11,8 +11,8 @@ use Rattle.model.specs.Frames.{Valid}
 use Rattle.memory.specs.declared.Record.{Record}
 use Rattle.memory.specs.Contract.{recordOf, stateOf}
 use Rattle.casefile.specs.declared.Run.{Run}
-use Rattle.casefile.specs.declared.Went.{Went}
-use Rattle.casefile.specs.declared.Went.the-variants as went
+use Rattle.casefile.specs.declared.Step.{Step}
+use Rattle.casefile.specs.declared.Step.the-variants as steps
 use Rattle.casefile.specs.declared.CaseAnswer.{CaseAnswer}
 use Rattle.casefile.specs.declared.CaseAnswer.the-variants as answer
 use Rattle.casefile.specs.Case.{Running, Next, goes, stops, Ended, ended, stopped, Answered, accepts, refuses, Case, last}
@@ -21,12 +21,12 @@ use Rattle.casefile.specs.Case.{Running, Next, goes, stops, Ended, ended
 abbrev pub runningOf : Run → List ℕ → List ℕ → List ℕ → Running
 runningOf c w l b = record { state = stateOf (c .memory) w l; at = c .at; text = out b (c .text) }
 
-abbrev pub nextOf : Went → List ℕ → List ℕ → List ℕ → Next
-nextOf (went.On c) w l b = goes (runningOf c w l b)
-nextOf (went.Refused k) w l b = stops k
+abbrev pub nextOf : Step → List ℕ → List ℕ → List ℕ → Next
+nextOf (steps.On c) w l b = goes (runningOf c w l b)
+nextOf (steps.Refused k) w l b = stops k
 
-abbrev pub printedAs : Record → Text → ℕ → Went
-printedAs m t at = cond (t .full) (went.Refused 13) (went.On (record { memory = m; text = t; at = at }))
+abbrev pub printedAs : Record → Text → ℕ → Step
+printedAs m t at = cond (t .full) (steps.Refused 13) (steps.On (record { memory = m; text = t; at = at }))
 
 -- 01's number and values for each answer
 abbrev pub answered : CaseAnswer → Answered
@@ -46,12 +46,12 @@ pub record Ready (m : Record) (w l table : List ℕ) : Type 0 where
   pub valid : Valid (stateOf m w l)
   pub sound : Sound w table (begin (recordOf m))
 
-abbrev pub ReadyNext : Went → List ℕ → List ℕ → List ℕ → Type 0
-ReadyNext (went.On c) w l table = Ready (c .memory) w l table
-ReadyNext (went.Refused k) w l table = Unit {0}
+abbrev pub ReadyNext : Step → List ℕ → List ℕ → List ℕ → Type 0
+ReadyNext (steps.On c) w l table = Ready (c .memory) w l table
+ReadyNext (steps.Refused k) w l table = Unit {0}
 
--- an access came to this; and, as it implies, the next may be done
-pub record Came (r : Went) (w l b table : List ℕ) (x : Next) : Type 0 where
+-- the case after an access; and, as it implies, the next access may be done
+pub record StepAs (r : Step) (w l b table : List ℕ) (x : Next) : Type 0 where
   pub is : nextOf r w l b ≡ x
   pub ready : ReadyNext r w l table
 

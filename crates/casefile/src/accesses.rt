@@ -8,11 +8,11 @@ ghost use Rattle.reading.specs.Bytes.{numbersAt};
 ghost use Rattle.reading.specs.Kinds.{isKnown, sizeOf};
 ghost use Rattle.memory.specs.Contract.{stateOf};
 ghost use Rattle.casefile.specs.Case.{callOf, done, one, rest, whole};
-ghost use Rattle.casefile.specs.Contract.{runningOf, endedOf, Ready, Came, Finishes};
+ghost use Rattle.casefile.specs.Contract.{runningOf, endedOf, Ready, StepAs, Finishes};
 use super::calls;
 use crate::CaseAnswer;
 use crate::Run;
-use crate::Went;
+use crate::Step;
 use conditions::Table;
 use memory::Record;
 use reading::Access;
@@ -31,9 +31,9 @@ fn read_access(
     buf: &mut [u8],
     c: Run,
     ops: &mut [u32],
-) -> Went
+) -> Step
     requires { ⌜ Ready (c .memory) (now words) (now list) (now table) × (isKnown kind ≡ true) × (length (now ops) ≡ sizeOf kind (c .memory .n) (c .memory .w)) × (from + 2 * length (now ops) ≤ length (now file)) ⌝ }
-    ensures { λ r. ⌜ Came r (now (words .exit)) (now (list .exit)) (now (buf .exit)) (now (table .exit)) (done (callOf kind (c .memory .n) (c .memory .w) (numbersAt (now (file .entry)) from (length (now (ops .entry))))) (stateOf (c .memory) (now (words .entry)) (now (list .entry))) (c .at) (out (now (buf .entry)) (c .text))) ⌝ }
+    ensures { λ r. ⌜ StepAs r (now (words .exit)) (now (list .exit)) (now (buf .exit)) (now (table .exit)) (done (callOf kind (c .memory .n) (c .memory .w) (numbersAt (now (file .entry)) from (length (now (ops .entry))))) (stateOf (c .memory) (now (words .entry)) (now (list .entry))) (c .at) (out (now (buf .entry)) (c .text))) ⌝ }
 {
     reading::read_numbers(file, from, ops);
     calls::do_access(kind, words, list, table, buf, c, ops)
@@ -47,9 +47,9 @@ fn do_one(
     table: &mut Table,
     buf: &mut [u8],
     c: Run,
-) -> Went
+) -> Step
     requires { ⌜ Ready (c .memory) (now words) (now list) (now table) ⌝ }
-    ensures { λ r. ⌜ Came r (now (words .exit)) (now (list .exit)) (now (buf .exit)) (now (table .exit)) (one (now (file .entry)) (runningOf c (now (words .entry)) (now (list .entry)) (now (buf .entry)))) ⌝ }
+    ensures { λ r. ⌜ StepAs r (now (words .exit)) (now (list .exit)) (now (buf .exit)) (now (table .exit)) (one (now (file .entry)) (runningOf c (now (words .entry)) (now (list .entry)) (now (buf .entry)))) ⌝ }
 {
     let memory = c.memory;
     let text = c.text;
@@ -75,7 +75,7 @@ fn do_one(
                 &mut ops[..size],
             )
         }
-        Access::Refused(k) => Went::Refused(k),
+        Access::Refused(k) => Step::Refused(k),
     }
 }
 
@@ -116,11 +116,11 @@ fn do_all(
     while i < accesses {
         let r = do_one(file, words, list, table, buf, c);
         match r {
-            Went::On(next) => {
+            Step::On(next) => {
                 c = next;
                 i += 1;
             }
-            Went::Refused(number) => {
+            Step::Refused(number) => {
                 return CaseAnswer::Refused { number, after: i };
             }
         }

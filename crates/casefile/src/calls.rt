@@ -8,9 +8,9 @@ ghost use Rattle.reading.specs.declared.Kind.the-variants as kinds;
 ghost use Rattle.reading.specs.Kinds.{isKnown, sizeOf};
 ghost use Rattle.memory.specs.Contract.{stateOf};
 ghost use Rattle.casefile.specs.Case.{callOf, done};
-ghost use Rattle.casefile.specs.Contract.{printedAs, Ready, Came};
+ghost use Rattle.casefile.specs.Contract.{printedAs, Ready, StepAs};
 use crate::Run;
-use crate::Went;
+use crate::Step;
 use access::ControlNode;
 use conditions::Table;
 use memory::AssertAnswer;
@@ -22,13 +22,13 @@ use reading::Kind;
 use text::Text;
 
 // After a line: its text may not have fitted.
-fn printed(memory: Record, text: Text, at: usize) -> Went
+fn printed(memory: Record, text: Text, at: usize) -> Step
     ensures { λ r. ⌜ r ≡ printedAs memory text at ⌝ }
 {
     if text.full {
-        Went::Refused(13)
+        Step::Refused(13)
     } else {
-        Went::On(Run { memory, text, at })
+        Step::On(Run { memory, text, at })
     }
 }
 
@@ -39,9 +39,9 @@ fn do_write(
     buf: &mut [u8],
     c: Run,
     ops: &[u32],
-) -> Went
+) -> Step
     requires { ⌜ Ready (c .memory) (now words) (now list) (now table) × (length (now ops) ≡ 2 + 2 * c .memory .n + 2 * c .memory .w) ⌝ }
-    ensures { λ r. ⌜ Came r (now (words .exit)) (now (list .exit)) (now (buf .exit)) (now (table .exit)) (done (callOf kinds.Write (c .memory .n) (c .memory .w) (now (ops .entry))) (stateOf (c .memory) (now (words .entry)) (now (list .entry))) (c .at) (out (now (buf .entry)) (c .text))) ⌝ }
+    ensures { λ r. ⌜ StepAs r (now (words .exit)) (now (list .exit)) (now (buf .exit)) (now (table .exit)) (done (callOf kinds.Write (c .memory .n) (c .memory .w) (now (ops .entry))) (stateOf (c .memory) (now (words .entry)) (now (list .entry))) (c .at) (out (now (buf .entry)) (c .text))) ⌝ }
 {
     let memory = c.memory;
     let a = 2 + 2 * (memory.n as usize);
@@ -54,7 +54,7 @@ fn do_write(
             let t = lines::put_write(buf, c.text, place);
             printed(after, t, c.at)
         }
-        WriteAnswer::Refused(k) => Went::Refused(k),
+        WriteAnswer::Refused(k) => Step::Refused(k),
     }
 }
 
@@ -67,9 +67,9 @@ fn read_into(
     c: Run,
     ops: &[u32],
     word: &mut [u32],
-) -> Went
+) -> Step
     requires { ⌜ Ready (c .memory) (now words) (now list) (now table) × (length (now ops) ≡ 2 + 2 * c .memory .n) × (now word ≡ replicate (2 * c .memory .w) 0) ⌝ }
-    ensures { λ r. ⌜ Came r (now (words .exit)) (now (list .entry)) (now (buf .exit)) (now (table .exit)) (done (callOf kinds.Read (c .memory .n) (c .memory .w) (now (ops .entry))) (stateOf (c .memory) (now (words .entry)) (now (list .entry))) (c .at) (out (now (buf .entry)) (c .text))) ⌝ }
+    ensures { λ r. ⌜ StepAs r (now (words .exit)) (now (list .entry)) (now (buf .exit)) (now (table .exit)) (done (callOf kinds.Read (c .memory .n) (c .memory .w) (now (ops .entry))) (stateOf (c .memory) (now (words .entry)) (now (list .entry))) (c .at) (out (now (buf .entry)) (c .text))) ⌝ }
 {
     let memory = c.memory;
     let a = 2 + 2 * (memory.n as usize);
@@ -81,7 +81,7 @@ fn read_into(
             let t = lines::put_read(buf, c.text, words, after.count, word);
             printed(after, t, c.at)
         }
-        ReadAnswer::Refused(k) => Went::Refused(k),
+        ReadAnswer::Refused(k) => Step::Refused(k),
     }
 }
 
@@ -92,9 +92,9 @@ fn do_read(
     buf: &mut [u8],
     c: Run,
     ops: &[u32],
-) -> Went
+) -> Step
     requires { ⌜ Ready (c .memory) (now words) (now list) (now table) × (length (now ops) ≡ 2 + 2 * c .memory .n) ⌝ }
-    ensures { λ r. ⌜ Came r (now (words .exit)) (now (list .entry)) (now (buf .exit)) (now (table .exit)) (done (callOf kinds.Read (c .memory .n) (c .memory .w) (now (ops .entry))) (stateOf (c .memory) (now (words .entry)) (now (list .entry))) (c .at) (out (now (buf .entry)) (c .text))) ⌝ }
+    ensures { λ r. ⌜ StepAs r (now (words .exit)) (now (list .entry)) (now (buf .exit)) (now (table .exit)) (done (callOf kinds.Read (c .memory .n) (c .memory .w) (now (ops .entry))) (stateOf (c .memory) (now (words .entry)) (now (list .entry))) (c .at) (out (now (buf .entry)) (c .text))) ⌝ }
 {
     let memory = c.memory;
     let size = 2 * (memory.w as usize);
@@ -109,9 +109,9 @@ fn do_assert(
     buf: &mut [u8],
     c: Run,
     ops: &[u32],
-) -> Went
+) -> Step
     requires { ⌜ Ready (c .memory) (now words) (now list) (now table) × (length (now ops) ≡ 1 + 2 * c .memory .n + 2 * c .memory .w) ⌝ }
-    ensures { λ r. ⌜ Came r (now (words .exit)) (now (list .exit)) (now (buf .exit)) (now (table .exit)) (done (callOf kinds.Assert (c .memory .n) (c .memory .w) (now (ops .entry))) (stateOf (c .memory) (now (words .entry)) (now (list .entry))) (c .at) (out (now (buf .entry)) (c .text))) ⌝ }
+    ensures { λ r. ⌜ StepAs r (now (words .exit)) (now (list .exit)) (now (buf .exit)) (now (table .exit)) (done (callOf kinds.Assert (c .memory .n) (c .memory .w) (now (ops .entry))) (stateOf (c .memory) (now (words .entry)) (now (list .entry))) (c .at) (out (now (buf .entry)) (c .text))) ⌝ }
 {
     let memory = c.memory;
     let a = 1 + 2 * (memory.n as usize);
@@ -135,7 +135,7 @@ fn do_assert(
             let t = lines::put_assert(buf, c.text, words, after.count, false, after.asserted);
             printed(after, t, c.at)
         }
-        AssertAnswer::Refused(k) => Went::Refused(k),
+        AssertAnswer::Refused(k) => Step::Refused(k),
     }
 }
 
@@ -146,9 +146,9 @@ fn do_check(
     buf: &mut [u8],
     c: Run,
     ops: &[u32],
-) -> Went
+) -> Step
     requires { ⌜ Ready (c .memory) (now words) (now list) (now table) × (length (now ops) ≡ 1 + 2 * c .memory .n + 2 * c .memory .w) ⌝ }
-    ensures { λ r. ⌜ Came r (now (words .exit)) (now (list .entry)) (now (buf .exit)) (now (table .exit)) (done (callOf kinds.Check (c .memory .n) (c .memory .w) (now (ops .entry))) (stateOf (c .memory) (now (words .entry)) (now (list .entry))) (c .at) (out (now (buf .entry)) (c .text))) ⌝ }
+    ensures { λ r. ⌜ StepAs r (now (words .exit)) (now (list .entry)) (now (buf .exit)) (now (table .exit)) (done (callOf kinds.Check (c .memory .n) (c .memory .w) (now (ops .entry))) (stateOf (c .memory) (now (words .entry)) (now (list .entry))) (c .at) (out (now (buf .entry)) (c .text))) ⌝ }
 {
     let memory = c.memory;
     let a = 1 + 2 * (memory.n as usize);
@@ -168,7 +168,7 @@ fn do_check(
             let t = lines::put_check(buf, c.text, words, after.count, after.checked);
             printed(after, t, c.at)
         }
-        CheckAnswer::Refused(k) => Went::Refused(k),
+        CheckAnswer::Refused(k) => Step::Refused(k),
     }
 }
 
@@ -181,15 +181,15 @@ pub fn do_access(
     buf: &mut [u8],
     c: Run,
     ops: &[u32],
-) -> Went
+) -> Step
     requires { ⌜ Ready (c .memory) (now words) (now list) (now table) × (isKnown kind ≡ true) × (length (now ops) ≡ sizeOf kind (c .memory .n) (c .memory .w)) ⌝ }
-    ensures { λ r. ⌜ Came r (now (words .exit)) (now (list .exit)) (now (buf .exit)) (now (table .exit)) (done (callOf kind (c .memory .n) (c .memory .w) (now (ops .entry))) (stateOf (c .memory) (now (words .entry)) (now (list .entry))) (c .at) (out (now (buf .entry)) (c .text))) ⌝ }
+    ensures { λ r. ⌜ StepAs r (now (words .exit)) (now (list .exit)) (now (buf .exit)) (now (table .exit)) (done (callOf kind (c .memory .n) (c .memory .w) (now (ops .entry))) (stateOf (c .memory) (now (words .entry)) (now (list .entry))) (c .at) (out (now (buf .entry)) (c .text))) ⌝ }
 {
     match kind {
         Kind::Write => do_write(words, list, table, buf, c, ops),
         Kind::Read => do_read(words, list, table, buf, c, ops),
         Kind::Assert => do_assert(words, list, table, buf, c, ops),
         Kind::Check => do_check(words, list, table, buf, c, ops),
-        Kind::Unknown => Went::Refused(11),
+        Kind::Unknown => Step::Refused(11),
     }
 }

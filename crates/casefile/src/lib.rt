@@ -18,7 +18,7 @@ pub struct Run {
 }
 
 // After an access the case goes on, or is refused by this number.
-pub enum Went {
+pub enum Step {
     On(Run),
     Refused(u32),
 }

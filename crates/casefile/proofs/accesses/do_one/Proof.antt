@@ -1,4 +1,4 @@
-use Rattle.casefile.proofs.RestLaws.{came-here, one-missing}
+use Rattle.casefile.proofs.RestLaws.{step-here, one-missing}
 use Rattle.reading.proofs.AccessLaws.{access-here}
 use Rattle.reading.proofs.KindLaws.{size-most}
 use Rattle.memory.proofs.CallLaws.{valid-few}
@@ -40,7 +40,7 @@ same-length-3 : tie.Need-same-length-3
 same-length-3 c = search needs
 
 returns : tie.Need-returns
-returns c = let f = valid-few _ (c .before .before .before .before .before .before .before .before .before .before .before .before .before .before .before .before .before .before .before .before .before .before .before .before .pre .valid) in let z = size-most (c .before .before .before .before .before .before .before .before .before .before .before .before .before .before .before .before .before .before .before .before .before .before .before .before .args .c .memory .n) (c .before .before .before .before .before .before .before .before .before .before .before .before .before .before .before .before .before .before .before .before .before .before .before .before .args .c .memory .w) (c .before .before .before .before .before .before .before .before .before .before .before .before .before .before .before .found .given .0 .0) in came-here (now (c .before .before .before .before .before .before .before .before .before .before .before .before .before .before .before .before .before .before .before .before .before .before .before .before .args .file)) _ (c .before .before .before .before .before .before .before .before .before .before .before .before .before .before .before .found .given .1) (c .before .before .before .before .before .before .before .before .before .before .before .before .before .before .before .before .before .access-at .ensures) _ (simp length-take (omega (arith, f .0, f .1, z, c .before .before .before .before .before .before .before .before .before .before .before .before .before .operands .ensures))) (c .before .before .before .before .before .before .before .read-access .ensures)
+returns c = let f = valid-few _ (c .before .before .before .before .before .before .before .before .before .before .before .before .before .before .before .before .before .before .before .before .before .before .before .before .pre .valid) in let z = size-most (c .before .before .before .before .before .before .before .before .before .before .before .before .before .before .before .before .before .before .before .before .before .before .before .before .args .c .memory .n) (c .before .before .before .before .before .before .before .before .before .before .before .before .before .before .before .before .before .before .before .before .before .before .before .before .args .c .memory .w) (c .before .before .before .before .before .before .before .before .before .before .before .before .before .before .before .found .given .0 .0) in step-here (now (c .before .before .before .before .before .before .before .before .before .before .before .before .before .before .before .before .before .before .before .before .before .before .before .before .args .file)) _ (c .before .before .before .before .before .before .before .before .before .before .before .before .before .before .before .found .given .1) (c .before .before .before .before .before .before .before .before .before .before .before .before .before .before .before .before .before .access-at .ensures) _ (simp length-take (omega (arith, f .0, f .1, z, c .before .before .before .before .before .before .before .before .before .before .before .before .before .operands .ensures))) (c .before .before .before .before .before .before .before .read-access .ensures)
 
 returns-2 : tie.Need-returns-2
 returns-2 c = record { is = one-missing (now (c .before .before .before .before .before .before .before .before .before .before .args .file)) _ (c .before .found2 .given .1) (c .before .before .before .access-at .ensures); ready = tt }

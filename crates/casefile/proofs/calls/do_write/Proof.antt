@@ -1,4 +1,4 @@
-use Rattle.casefile.proofs.CameLaws.{answers-as, came-on, came-stop}
+use Rattle.casefile.proofs.StepLaws.{answers-as, step-on, step-stop}
 use Rattle.casefile.proofs.WordLaws.{part-size}
 use Rattle.memory.specs.Contract.{writeAnswer}
 use Rattle.casefile.specs.Case.{callOf}
@@ -85,7 +85,7 @@ same-length-3 c = search needs
 
 returns : tie.Need-returns
 unfolding callOf
-returns c = came-on _ (c .before .before .before .before .before .before .before .before .before .before .before .before .before .before .before .before .before .before .before .before .before .before .before .before .before .before .before .pre .0 .valid) (answers-as writeAnswer (c .before .before .before .before .before .before .answer .given .1) (c .before .before .before .before .before .before .before .before .before .before .before .before .before .write-on .ensures)) (c .before .before .before .before .before .before .before .before .before .before .before .before .before .before .before .before .before .before .before .before .before .before .before .before .before .before .before .args .c .at) (out (now (c .before .before .before .before .before .before .before .before .before .before .before .before .before .before .before .before .before .before .before .before .before .before .before .before .before .before .before .args .buf)) (c .before .before .before .before .before .before .before .before .before .before .before .before .before .before .before .before .before .before .before .before .before .before .before .before .before .before .before .args .c .text)) refl (c .before .before .before .put-write .ensures) (c .printed .ensures)
+returns c = step-on _ (c .before .before .before .before .before .before .before .before .before .before .before .before .before .before .before .before .before .before .before .before .before .before .before .before .before .before .before .pre .0 .valid) (answers-as writeAnswer (c .before .before .before .before .before .before .answer .given .1) (c .before .before .before .before .before .before .before .before .before .before .before .before .before .write-on .ensures)) (c .before .before .before .before .before .before .before .before .before .before .before .before .before .before .before .before .before .before .before .before .before .before .before .before .before .before .before .args .c .at) (out (now (c .before .before .before .before .before .before .before .before .before .before .before .before .before .before .before .before .before .before .before .before .before .before .before .before .before .before .before .args .buf)) (c .before .before .before .before .before .before .before .before .before .before .before .before .before .before .before .before .before .before .before .before .before .before .before .before .before .before .before .args .c .text)) refl (c .before .before .before .put-write .ensures) (c .printed .ensures)
 
 same-length-4 : tie.Need-same-length-4
 same-length-4 c = search needs
@@ -95,7 +95,7 @@ same-length-5 c = search needs
 
 returns-2 : tie.Need-returns-2
 unfolding callOf
-returns-2 c = came-stop _ (c .before .before .before .before .before .before .before .before .before .before .before .before .before .before .before .before .before .before .before .before .before .before .args .c .at) (out (now (c .before .before .before .before .before .before .before .before .before .before .before .before .before .before .before .before .before .before .before .before .before .before .args .buf)) (c .before .before .before .before .before .before .before .before .before .before .before .before .before .before .before .before .before .before .before .before .before .before .args .c .text)) (answers-as writeAnswer (c .before .answer2 .given .1) (c .before .before .before .before .before .before .before .before .write-on .ensures))
+returns-2 c = step-stop _ (c .before .before .before .before .before .before .before .before .before .before .before .before .before .before .before .before .before .before .before .before .before .before .args .c .at) (out (now (c .before .before .before .before .before .before .before .before .before .before .before .before .before .before .before .before .before .before .before .before .before .before .args .buf)) (c .before .before .before .before .before .before .before .before .before .before .before .before .before .before .before .before .before .before .before .before .before .before .args .c .text)) (answers-as writeAnswer (c .before .answer2 .given .1) (c .before .before .before .before .before .before .before .before .write-on .ensures))
 
 pub do-write-spec : {M : Type 1} → statement M
 do-write-spec =

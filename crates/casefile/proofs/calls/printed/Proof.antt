@@ -1,4 +1,4 @@
-use Rattle.casefile.proofs.CameLaws.{printed-full, printed-fits}
+use Rattle.casefile.proofs.StepLaws.{printed-full, printed-fits}
 use Rattle.casefile.proofs.calls.printed.Statement.{statement}
 use Rattle.casefile.proofs.calls.printed.Tie as tie
 

@@ -11,10 +11,10 @@ use Rattle.memory.specs.declared.Record.{Record}
 use Rattle.memory.specs.declared.ReadAnswer.{ReadAnswer}
 use Rattle.memory.specs.declared.ReadAnswer.the-variants as reads
 use Rattle.memory.specs.Contract.{stateOf, readAnswer, AnswersOn, ReadAnswersOn}
-use Rattle.casefile.specs.declared.Went.{Went}
-use Rattle.casefile.specs.declared.Went.the-variants as went
+use Rattle.casefile.specs.declared.Step.{Step}
+use Rattle.casefile.specs.declared.Step.the-variants as steps
 use Rattle.casefile.specs.Case.{goes, stops, lineOf, printed, said, done}
-use Rattle.casefile.specs.Contract.{nextOf, printedAs, ReadyNext, Came}
+use Rattle.casefile.specs.Contract.{nextOf, printedAs, ReadyNext, StepAs}
 use Rattle.casefile.proofs.WordLaws.{after-valid}
 
 pub said-printed : (a : Answer) (s : State) (at : ℕ) (o : Out) → isRefused a ≡ false → said a s at o ≡ printed s at (appended (lineOf a s) o)
@@ -36,29 +36,29 @@ module _ (c : Call) {s : State} {a : Answer} {m : Record} {w l table : List ℕ}
   unfolding done
   done-is = ap (λ (x : Result). said (x .answer) (x .after) at o) (N .is)
 
-  module _ (f : isRefused a ≡ false) {b : List ℕ} {t : Text} {r : Went} (p : out b t ≡ appended (lineOf a (stateOf m w l)) o) (q : r ≡ printedAs m t at) where
+  module _ (f : isRefused a ≡ false) {b : List ℕ} {t : Text} {r : Step} (p : out b t ≡ appended (lineOf a (stateOf m w l)) o) (q : r ≡ printedAs m t at) where
     next-is : nextOf r w l b ≡ printed (stateOf m w l) at (out b t)
-    next-is = ap (λ (x : Went). nextOf x w l b) q ∙ go (t .full)
+    next-is = ap (λ (x : Step). nextOf x w l b) q ∙ go (t .full)
       where
-        go : (f : Bool) → nextOf (cond f (went.Refused 13) (went.On (record { memory = m; text = t; at = at }))) w l b ≡ cond f (stops 13) (goes (record { state = stateOf m w l; at = at; text = out b t }))
+        go : (f : Bool) → nextOf (cond f (steps.Refused 13) (steps.On (record { memory = m; text = t; at = at }))) w l b ≡ cond f (stops 13) (goes (record { state = stateOf m w l; at = at; text = out b t }))
         go true = refl
         go false = refl
 
     next-ready : ReadyNext r w l table
-    next-ready = subst (λ (x : Went). ReadyNext x w l table) (sym q) (go (t .full))
+    next-ready = subst (λ (x : Step). ReadyNext x w l table) (sym q) (go (t .full))
       where
-        go : (f : Bool) → ReadyNext (cond f (went.Refused 13) (went.On (record { memory = m; text = t; at = at }))) w l table
+        go : (f : Bool) → ReadyNext (cond f (steps.Refused 13) (steps.On (record { memory = m; text = t; at = at }))) w l table
         go true = tt
         go false = record { valid = after-valid c K (N .is); sound = N .sound f }
 
     -- accepted, and printed as it is
-    pub came-on : Came r w l b table (done c s at o)
-    came-on = record { is = next-is ∙ ap (printed (stateOf m w l) at) p ∙ sym (said-printed a (stateOf m w l) at o f) ∙ sym done-is; ready = next-ready }
+    pub step-on : StepAs r w l b table (done c s at o)
+    step-on = record { is = next-is ∙ ap (printed (stateOf m w l) at) p ∙ sym (said-printed a (stateOf m w l) at o f) ∙ sym done-is; ready = next-ready }
 
 -- refused
-pub came-stop : (c : Call) {s t : State} {k : ℕ} {w l b table : List ℕ} (at : ℕ) (o : Out) → AnswersOn c s t (refused k) table → Came (went.Refused k) w l b table (done c s at o)
+pub step-stop : (c : Call) {s t : State} {k : ℕ} {w l b table : List ℕ} (at : ℕ) (o : Out) → AnswersOn c s t (refused k) table → StepAs (steps.Refused k) w l b table (done c s at o)
 unfolding done
-came-stop c at o N = record { is = sym (ap (λ (x : Result). said (x .answer) (x .after) at o) (N .is)); ready = tt }
+step-stop c at o N = record { is = sym (ap (λ (x : Result). said (x .answer) (x .after) at o) (N .is)); ready = tt }
 
 -- a read fills the words that it is lent
 module _ {m m′ : Record} {w l e a out w′ out′ : List ℕ} {x : ReadAnswer} {table : List ℕ} (N : ReadAnswersOn m w l e a out m′ w′ out′ x table) (z : List ℕ) (f : out ≡ z) where
@@ -73,8 +73,8 @@ module _ {m m′ : Record} {w l e a out w′ out′ : List ℕ} {x : ReadAnswer}
 
 -- after a line
 module _ (m : Record) (t : Text) (at : ℕ) where
-  pub printed-full : t .full ≡ true → went.Refused 13 ≡ printedAs m t at
-  printed-full e = sym (ap (λ (f : Bool). cond f (went.Refused 13) (went.On (record { memory = m; text = t; at = at }))) e)
+  pub printed-full : t .full ≡ true → steps.Refused 13 ≡ printedAs m t at
+  printed-full e = sym (ap (λ (f : Bool). cond f (steps.Refused 13) (steps.On (record { memory = m; text = t; at = at }))) e)
 
-  pub printed-fits : t .full ≡ false → went.On (record { memory = m; text = t; at = at }) ≡ printedAs m t at
-  printed-fits e = sym (ap (λ (f : Bool). cond f (went.Refused 13) (went.On (record { memory = m; text = t; at = at }))) e)
+  pub printed-fits : t .full ≡ false → steps.On (record { memory = m; text = t; at = at }) ≡ printedAs m t at
+  printed-fits e = sym (ap (λ (f : Bool). cond f (steps.Refused 13) (steps.On (record { memory = m; text = t; at = at }))) e)
