@@ -8,9 +8,8 @@ use native.Mathlib.Omega.{arith}
 use lib.Dec.{T, ltb}
 use lib.ListN.{length, getD, drop}
 use borrow.Author.Tests.{ltb-true, ltb-false}
-use Rattle.text.specs.declared.Text.{Text}
-use Rattle.text.specs.Text.{Out, out, growing, appended}
-use Rattle.text.proofs.TextLaws.{appended-append, appended-fits, appended-over, appended-is-full}
+use Rattle.text.specs.Text.{Out, growing, appended}
+use Rattle.text.proofs.TextLaws.{appended-append, appended-fits, appended-is-full}
 use Rattle.lines.specs.Lines.{endLine}
 use Rattle.conditions.specs.Value.{value}
 use Rattle.conditions.specs.Assignment.{bitAt}
@@ -257,17 +256,6 @@ case-exactly file words list text k r e a small =
 pub done-fits : (file words list text : List ℕ) (w l b : List ℕ) {r : CaseAnswer} {k : ℕ} {m : memory.Record} → r ≡ answer.Done k m → caseAs r w l b ≡ caseOf file words list text → k ≤ length text
 unfolding CaseText
 done-fits file words list text w l b {k = k} {m = m} e f = case-text file words list text k (recordOf m) (sym (ap (λ (x : Case). x .answer) f) ∙ ap answered e) .fits
-
--- as does the end of any text that began at byte 0
-pub text-within : (xs l : List ℕ) {b : List ℕ} {t : Text} → out b t ≡ appended xs (growing l 0) → t .at ≤ length l
-text-within xs l {t = t} e = go (ltb (length l) (0 + length xs)) refl
-  where
-    at-is : {k : ℕ} {m : List ℕ} {f : Bool} → appended xs (growing l 0) ≡ out m (record { at = k; full = f }) → t .at ≡ k
-    at-is g = ap (λ (x : Out). x .text .at) (e ∙ g)
-
-    go : (f : Bool) → ltb (length l) (0 + length xs) ≡ f → t .at ≤ length l
-    go true q = let h = at-is (appended-over xs l 0 (omega arith) (ltb-true (length l) (0 + length xs) q)) in omega (arith, h)
-    go false q = let g : 0 + length xs ≤ length l = ltb-false (length l) (0 + length xs) q in let h = at-is (appended-fits xs l 0 g) in omega (arith, h, g)
 
 -- where the case is refused after k, those before it were accepted
 record Stops (file : List ℕ) (m i : ℕ) (c : Running) (k : ℕ) : Type 0 where

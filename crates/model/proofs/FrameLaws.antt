@@ -1,5 +1,5 @@
 -- What a call leaves, refused or not: the statements of `Frames`.
-use mathlib.Core.Path.{_≡_, refl, sym, ap, _∙_}
+use mathlib.Core.Path.{_≡_, refl, sym, ap, subst, _∙_}
 use mathlib.Core.Bool.{Bool, true, false, cond, not, _&&_, _||_, true≢false, or-false}
 use mathlib.Core.List.{List, [], _∷_}
 use Prim.Native.Nat.{ℕ, zero, suc, _+_, _*_, _<_, _≤_}
@@ -19,9 +19,9 @@ use Rattle.conditions.specs.User.{isUser}
 use Rattle.conditions.specs.Meaning.{Meaning, Builds}
 use Rattle.conditions.proofs.Promises.{extends-refl, extends-trans, standard-is, is-standard, terminals-standard, clear-standard, clear-below, ite-builds, variable-builds, is-user, user-stands}
 use Rattle.model.specs.Record.{listCapacity}
-use Rattle.model.specs.Access.{Write, Assert, Check}
+use Rattle.model.specs.Access.{Write, Read, Assert, Check}
 use Rattle.model.specs.Rows.{Row, firstRow, users, row1, row2, row3, row8, writeRows, readRows, assertRows, checkRows, evaluateRows, variableRows, iteRows}
-use Rattle.model.specs.Step.{State, Call, write, read, assert, check, evaluate, variable, ite, Answer, refused, place, filled, entered, kept, accepted, node, isRefused, Result, refusal, turnedDown, orNine, begin, grown, withAsserted, withEntry, enter, act, unless, step, run, fresh, freshRows, freshUnless, freshRecord}
+use Rattle.model.specs.Step.{State, Call, write, read, assert, check, evaluate, variable, ite, Answer, refused, place, filled, entered, kept, accepted, valued, node, isRefused, Result, refusal, turnedDown, cleared, orNine, begin, grown, withAsserted, withEntry, enter, act, unless, step, run, fresh, freshRows, freshUnless, freshRecord}
 use Rattle.model.specs.Claims.{pairAt, pairs}
 use Rattle.model.specs.Meanings.{entryValues}
 use Rattle.model.specs.Frames.{clears, wordsAfter, RefusalLeaves, RefusalNumber, Extended, SuccessLeaves, Valid, StaysValid, NoRow123, FreshValid, FreshNoRow123, enters, CountAtMost}
@@ -299,3 +299,52 @@ pub count-at-most : CountAtMost
 unfolding CountAtMost run
 count-at-most [] s = omega arith
 count-at-most (c ∷ cs) s = omega (arith, step-leaves c s .entries, count-at-most cs (step c s .after))
+
+-- the words of a filled read, of n words
+abbrev WordBelow : Answer → ℕ → ℕ → Type 0
+WordBelow (refused k) n c = Unit {0}
+WordBelow (place k) n c = Unit {0}
+WordBelow (filled r) n c = (length r ≡ n) × ((i : ℕ) → i < length r → getD r i 0 < c)
+WordBelow entered n c = Unit {0}
+WordBelow kept n c = Unit {0}
+WordBelow accepted n c = Unit {0}
+WordBelow (valued b) n c = Unit {0}
+WordBelow (node n) m c = Unit {0}
+
+module _ (e a out : List ℕ) (s : State) where
+  abbrev Below : Result → Type 0
+  Below x = WordBelow (x .answer) (2 * s .rec .w) (x .after .rec .count)
+
+  read-acts : refusal (read e a out) s ≡ 0 → Below (act (read e a out) s)
+  unfolding act orNine
+  read-acts z =
+      let R = s .rec in
+      let w = s .words in
+      let Q = rows-hold (readRows R w (s .list) e a out) refl z in
+      let S = standard-is w (R .count) (Q .1 .0) in
+      let T = third-is s (Q .1 .1 .0) in
+      let N = and3 (eqb (length e) 2) (eqb (length a) (2 * R .n)) (eqb (length out) (2 * R .w)) (Q .1 .1 .1 .0) in
+      let U = and-both (users R w e) (users R w a) (Q .1 .1 .1 .1 .0) in
+      let two = eqb-true (length e) 2 (N .0) in
+      let long = eqb-true (length a) (2 * R .n) (N .1) in
+      let C = users-halves σ R w S e 1 two (U .0) in
+      let A = users-halves σ R w S a (R .n) long (U .1) in
+      let X = read-means R (s .list) (row1-n R w (Q .0)) (entryValues σ s) (getD e 0 0) (getD e 1 0) a (pairAt σ w e 0) (pairs σ w a (R .n)) (length-pairs σ w a 0 (R .n)) w (begin R) S (holds-values σ s S T .entries) (C .half 0 (omega arith)) (C .half 1 (omega arith)) A in
+      let x = Read R (s .list) (getD e 0 0) (getD e 1 0) a w (begin R) in
+      go x (x .store .full) (X .post .size) (λ i h. X .post .halves .half i (omega (arith, X .post .size)) .below)
+    where
+      go : (x : Outcome (List ℕ)) (f : Bool) → length (x .answer) ≡ 2 * s .rec .w → ((i : ℕ) → i < length (x .answer) → getD (x .answer) i 0 < x .store .count)
+          → Below (cond f (cleared 9 s) (record { answer = filled (x .answer); after = grown s (x .words) (x .store .count) }))
+      go x true p q = tt
+      go x false p q = (p, q)
+
+  read-below : Below (step (read e a out) s)
+  unfolding step
+  read-below = go (refusal (read e a out) s) refl
+    where
+      go : (k : ℕ) → refusal (read e a out) s ≡ k → Below (unless k s (act (read e a out) s))
+      go zero z = read-acts z
+      go (suc k) z = tt
+
+  pub filled-below : {r : List ℕ} {t : State} → step (read e a out) s ≡ record { answer = filled r; after = t } → (length r ≡ 2 * s .rec .w) × ((i : ℕ) → i < length r → getD r i 0 < t .rec .count)
+  filled-below f = subst Below f read-below

@@ -10,7 +10,8 @@ use borrow.Author.Tests.{lt-ltb, le-ltb, ltb-true, ltb-false}
 use lib.Dec.{ltb}
 use lib.ListN.{length, set, take, drop, getD, length-set, length-take, length-append}
 use lib.Seq.{drop-length, sets, sets-eq, split-at}
-use Rattle.text.specs.Text.{Out, growing, ended, written, put, appended}
+use Rattle.text.specs.declared.Text.{Text}
+use Rattle.text.specs.Text.{Out, out, growing, ended, written, put, appended}
 
 pub put-full : (b : ℕ) (o : Out) → o .text .full ≡ true → put b o ≡ o
 unfolding put
@@ -75,6 +76,17 @@ appended-is-full xs l a g = go (ltb (length l) (a + length xs)) refl
     go : (b : Bool) → ltb (length l) (a + length xs) ≡ b → appended xs (growing l a) .text .full ≡ b
     go true e = ap (λ (o : Out). o .text .full) (appended-over xs l a g (ltb-true (length l) (a + length xs) e))
     go false e = ap (λ (o : Out). o .text .full) (appended-fits xs l a (ltb-false (length l) (a + length xs) e))
+
+-- A text that began at byte 0 ends within its buffer.
+pub text-within : (xs l : List ℕ) {b : List ℕ} {t : Text} → out b t ≡ appended xs (growing l 0) → t .at ≤ length l
+text-within xs l {t = t} e = go (ltb (length l) (0 + length xs)) refl
+  where
+    at-is : {k : ℕ} {m : List ℕ} {f : Bool} → appended xs (growing l 0) ≡ out m (record { at = k; full = f }) → t .at ≡ k
+    at-is g = ap (λ (x : Out). x .text .at) (e ∙ g)
+
+    go : (f : Bool) → ltb (length l) (0 + length xs) ≡ f → t .at ≤ length l
+    go true q = let h = at-is (appended-over xs l 0 (omega arith) (ltb-true (length l) (0 + length xs) q)) in omega (arith, h)
+    go false q = let g : 0 + length xs ≤ length l = ltb-false (length l) (0 + length xs) q in let h = at-is (appended-fits xs l 0 g) in omega (arith, h, g)
 
 cond-length : (f : Bool) (x y : Out) (n : ℕ) → length (x .buffer) ≡ n → length (y .buffer) ≡ n → length (cond f x y .buffer) ≡ n
 cond-length true x y n p q = p

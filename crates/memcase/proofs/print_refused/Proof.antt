@@ -1,4 +1,4 @@
-use Rattle.casefile.proofs.CaseLaws.{text-within}
+use Rattle.text.proofs.TextLaws.{text-within}
 use native.Mathlib.Omega.{arith}
 use borrow.Author.Needs.{needs}
 use Rattle.memcase.proofs.print_refused.Statement.{statement}
