@@ -133,10 +133,10 @@ module _ (file words list text ws : List ℕ) (r : Loaded) (f : (ws, sectionsOf 
 
 -- a case with which nothing is done yet
 pub first-ready : (file words list ws : List ℕ) (r : Loaded) {n w count m at : ℕ} → r ≡ loaded.Ready n w count m at → (ws, sectionsOf r) ≡ sections file words
-    → Ready (record { n = n; w = w; count = count; entries = 0; asserted = 1; checked = 1 }) ws list (replicate 8192 0)
+    → Ready (record { n = n; w = w; count = count; entries = 0; asserted = 1; checked = 1 }) ws list (replicate 32768 0)
 first-ready file words list ws r e f =
     let S = sections-ready file words e f in
-    record { valid = sections-valid S list; sound = zeros-sound _ 8192 (S .standard) }
+    record { valid = sections-valid S list; sound = zeros-sound _ 32768 (S .standard) }
 
 -- accepted, and refused
 module _ (file words list text w l b : List ℕ) (r : CaseAnswer) (f : endedOf r w l b ≡ whole file words list text) where

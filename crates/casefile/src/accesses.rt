@@ -153,7 +153,7 @@ pub fn whole(file: &[u8], words: &mut [u32], list: &mut [u32], buf: &mut [u8]) -
                 text: Text { at: 0, full: false },
                 at,
             };
-            let mut table: Table = [0; 8192];
+            let mut table: Table = [0; 32768];
             do_all(file, words, list, &mut table, buf, c, accesses)
         }
         Loaded::Refused(number) => CaseAnswer::Refused { number, after: 0 },

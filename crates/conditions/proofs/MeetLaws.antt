@@ -19,7 +19,7 @@ use Rattle.conditions.specs.Ite.{leastOf, partOf, partsOf}
 use Rattle.conditions.specs.Value.{value}
 use Rattle.conditions.specs.Assignment.{bitAt, change}
 use Rattle.conditions.specs.Table.{keyOf, slotOf}
-use Rattle.conditions.specs.Meet.{judgeOf, meetsBy, meetsUpTo, meets, Asks, neither, together, SomeNeither, SomeTogether, Decides, notedIn, withNote, judgeNoted, NotesHold}
+use Rattle.conditions.specs.Meet.{judgeOf, meetsBy, meetsUpTo, meets, Settles, Asks, neither, together, SomeNeither, SomeTogether, Decides, notedIn, withNote, judgeNoted, NotesHold}
 use Rattle.conditions.proofs.ValueLaws.{value-end, value-0}
 use Rattle.conditions.proofs.AssignmentLaws.{change-same, numberOf, bit-number, number-fits, value-small}
 use Rattle.conditions.proofs.CanonLaws.{end-same, value-change}
@@ -177,6 +177,11 @@ module _ {w : List ℕ} {c t f g h : ℕ} (A : Asks w c t f g h) where
   pub asks-nodes : (t < 2) × (f < 16384) × (g < 16384) × (h < 16384)
   asks-nodes = let m = A .standard .most in omega arith
 
+  pub judge-settles : (v : Verdict) → v ≡ judgeOf t f g h → Settles v (meets w t f g h)
+  judge-settles No e = sym (meets-no (sym e))
+  judge-settles Yes e = sym (meets-yes (sym e))
+  judge-settles Open e = tt
+
 -- the verdict by the notes is that of the nodes, but for a no
 noted-judge : (n : List ℕ) (t f g h : ℕ) {v : Verdict} → v ≡ judgeNoted n t f g h → (v ≡ No → ⊥) → judgeOf t f g h ≡ v
 unfolding judgeNoted
@@ -195,7 +200,7 @@ module _ {w : List ℕ} {c t f g h : ℕ} {n : List ℕ} (A : Asks w c t f g h) 
   -- three nodes that the notes have do not meet
   noted-no : notedIn n f g h ≡ true → false ≡ meets w t f g h
   unfolding notedIn
-  noted-no e = sym (N .at (slotOf f g h % 4096) (omega arith)) ∙ note-nodes A (getD n (slotOf f g h % 4096) 0) (eqb-true _ _ e)
+  noted-no e = sym (N .at (slotOf f g h) (omega arith)) ∙ note-nodes A (getD n (slotOf f g h) 0) (eqb-true _ _ e)
 
   pub judge-no : {v : Verdict} → v ≡ judgeNoted n t f g h → v ≡ No → false ≡ meets w t f g h
   unfolding judgeNoted
@@ -206,17 +211,17 @@ module _ {w : List ℕ} {c t f g h : ℕ} {n : List ℕ} (A : Asks w c t f g h) 
 
   -- the notes with three nodes more
   pub notes-more : false ≡ meets w t f g h → NotesHold w t (withNote n f g h)
-  notes-more m = record { at = λ i lt. go i lt (set-or n (slotOf f g h % 4096) i (keyOf f g h)) }
+  notes-more m = record { at = λ i lt. go i lt (set-or n (slotOf f g h) i (keyOf f g h)) }
     where
-      go : (i : ℕ) → i < 4096 → (getD (withNote n f g h) i 0 ≡ keyOf f g h) ⊎ (getD (withNote n f g h) i 0 ≡ getD n i 0)
+      go : (i : ℕ) → i < 32768 → (getD (withNote n f g h) i 0 ≡ keyOf f g h) ⊎ (getD (withNote n f g h) i 0 ≡ getD n i 0)
           → meets w t (getD (withNote n f g h) i 0 / 268435456) (getD (withNote n f g h) i 0 / 16384 % 16384) (getD (withNote n f g h) i 0 % 16384) ≡ false
       go i lt (inl z) = note-nodes A (getD (withNote n f g h) i 0) z ∙ sym m
       go i lt (inr z) = rw z (N .at i lt)
 
 -- notes of nothing but the other terminal
-pub notes-none : (w : List ℕ) (t : ℕ) → NotesHold w t (replicate 4096 (keyOf (1 - t) 0 0))
+pub notes-none : (w : List ℕ) (t : ℕ) → NotesHold w t (replicate 32768 (keyOf (1 - t) 0 0))
 unfolding meets meetsUpTo meetsBy judgeOf
-notes-none w t = record { at = λ i lt. rw (getD-replicate {A = ℕ} 4096 i (keyOf (1 - t) 0 0) 0 lt, first (1 - t)) (rw (eq-eqb (1 - t) (1 - t) refl)) }
+notes-none w t = record { at = λ i lt. rw (getD-replicate {A = ℕ} 32768 i (keyOf (1 - t) 0 0) 0 lt, first (1 - t)) (rw (eq-eqb (1 - t) (1 - t) refl)) }
   where
     first : (f : ℕ) → keyOf f 0 0 / 268435456 ≡ f
     first f = omega arith
@@ -251,6 +256,25 @@ module _ {w : List ℕ} {c t f g h : ℕ} {d : Parts} (D : Down w c t f g h d) w
 
   pub meets-high : {x y b : Bool} → x ≡ meets w t (d .f0) (d .g0) (d .h0) → x ≡ false → y ≡ meets w t (d .f1) (d .g1) (d .h1) → y ≡ b → b ≡ meets w t f g h
   meets-high ex x ey y = rw (down-rule, ← ex, x) (sym y ∙ ey)
+
+  -- the same of verdicts
+  pub low-settles : {x : Verdict} → Settles x (meets w t (d .f0) (d .g0) (d .h0)) → x ≡ Yes → Settles x (meets w t f g h)
+  low-settles s e = rw e (sym (meets-low (sym (rw e at s)) refl))
+
+  pub high-settles : {x : Verdict} (y : Verdict) → Settles x (meets w t (d .f0) (d .g0) (d .h0)) → x ≡ No → Settles y (meets w t (d .f1) (d .g1) (d .h1)) → Settles y (meets w t f g h)
+  high-settles No s e q = sym (meets-high (sym (rw e at s)) refl (sym q) refl)
+  high-settles Yes s e q = sym (meets-high (sym (rw e at s)) refl (sym q) refl)
+  high-settles Open s e q = tt
+
+-- the answer of a verdict that is not open
+pub settles-no : (b : Bool) {x : Verdict} → Settles x b → x ≡ No → false ≡ b
+settles-no b s e = sym (rw e at s)
+
+pub settles-yes : (b : Bool) {x : Verdict} → Settles x b → x ≡ Yes → true ≡ b
+settles-yes b s e = sym (rw e at s)
+
+pub open-settles : (b : Bool) {x : Verdict} → x ≡ Open → Settles x b
+open-settles b e = rw e tt
 
 -- each assignment is a 64-bit number's, to a node
 number-value : {w : List ℕ} {c : ℕ} → Standard w c → (φ : ℕ → Bool) (n : ℕ) → n < c → value w (bitAt (numberOf φ 64)) n ≡ value w φ n

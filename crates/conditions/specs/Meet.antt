@@ -36,6 +36,12 @@ meetsUpTo (suc k) w t f g h = meetsBy (meetsUpTo k w t) (judgeOf t f g h) (parts
 unfoldable pub meets : List ℕ → ℕ → ℕ → ℕ → ℕ → Bool
 meets w t f g h = meetsUpTo (suc (f + g + h)) w t f g h
 
+-- a verdict that is not open is the answer
+abbrev pub Settles : Verdict → Bool → Type 0
+Settles No b = b ≡ false
+Settles Yes b = b ≡ true
+Settles Open b = Unit {0}
+
 -- what the test asks: a store in standard form, a terminal, and three nodes
 pub record Asks (w : List ℕ) (c t f g h : ℕ) : Type 0 where
   pub standard : Standard w c
@@ -66,10 +72,10 @@ pub record Decides (P : Type 0) (b : Bool) : Type 0 where
 
 -- notes of what was found not to meet, three nodes to a number: whether they have f, g and h, and the notes with f, g and h put in
 unfoldable pub notedIn : List ℕ → ℕ → ℕ → ℕ → Bool
-notedIn n f g h = eqb (getD n (slotOf f g h % 4096) 0) (keyOf f g h)
+notedIn n f g h = eqb (getD n (slotOf f g h) 0) (keyOf f g h)
 
 abbrev pub withNote : List ℕ → ℕ → ℕ → ℕ → List ℕ
-withNote n f g h = set n (slotOf f g h % 4096) (keyOf f g h)
+withNote n f g h = set n (slotOf f g h) (keyOf f g h)
 
 -- no, if the notes have the three nodes; else by the nodes themselves
 unfoldable pub judgeNoted : List ℕ → ℕ → ℕ → ℕ → ℕ → Verdict
@@ -77,4 +83,4 @@ judgeNoted n t f g h = cond (notedIn n f g h) No (judgeOf t f g h)
 
 -- each number of the notes is three nodes that do not meet
 pub record NotesHold (w : List ℕ) (t : ℕ) (n : List ℕ) : Type 0 where
-  pub at : (i : ℕ) → i < 4096 → meets w t (getD n i 0 / 268435456) (getD n i 0 / 16384 % 16384) (getD n i 0 % 16384) ≡ false
+  pub at : (i : ℕ) → i < 32768 → meets w t (getD n i 0 / 268435456) (getD n i 0 / 16384 % 16384) (getD n i 0 % 16384) ≡ false

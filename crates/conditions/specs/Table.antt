@@ -17,7 +17,7 @@ keyOf f g h = (f * 16384 + g) * 16384 + h
 
 -- their place in a table
 abbrev pub slotOf : ℕ → ℕ → ℕ → ℕ
-slotOf f g h = (f * 12582917 + g * 4256249 + h * 741457) % 8192
+slotOf f g h = (f * 12582917 + g * 4256249 + h * 741457) % 32768
 
 -- what stands at that place, if it is theirs
 unfoldable pub recallOf : List ℕ → ℕ → ℕ → ℕ → Plain

@@ -15,7 +15,7 @@ ghost use Rattle.conditions.specs.Assignment.{bitAt};
 ghost use Rattle.conditions.specs.Table.{keyOf, slotOf, recallOf, knownOf, rememberOf};
 ghost use Rattle.conditions.specs.Contract.{Sound, Did};
 ghost use Rattle.conditions.specs.User.{isUser};
-ghost use Rattle.conditions.specs.Meet.{judgeOf, meets, Asks, neither, together, notedIn, withNote, judgeNoted, NotesHold};
+ghost use Rattle.conditions.specs.Meet.{judgeOf, meets, Settles, Asks, neither, together, notedIn, withNote, judgeNoted, NotesHold};
 
 // How many nodes there are, and whether a node was needed past the capacity. Once full, nothing is built any more.
 pub struct Store {
@@ -47,7 +47,7 @@ pub struct Parts {
 }
 
 // The computed table: remembered answers of Ite, one to a number.
-pub type Table = [u64; 8192];
+pub type Table = [u64; 32768];
 
 // The greater of two numbers.
 fn greater(a: u32, b: u32) -> u32
@@ -195,9 +195,9 @@ fn key(f: u32, g: u32, h: u32) -> u64
 // The place of three nodes in a table.
 fn slot(f: u32, g: u32, h: u32) -> usize
     requires { ⌜ (f < 16384) × (g < 16384) × (h < 16384) ⌝ }
-    ensures { λ r. ⌜ (r ≡ slotOf f g h) × (r < 8192) ⌝ }
+    ensures { λ r. ⌜ (r ≡ slotOf f g h) × (r < 32768) ⌝ }
 {
-    (f as usize * 12_582_917 + g as usize * 4_256_249 + h as usize * 741_457) % 8192
+    (f as usize * 12_582_917 + g as usize * 4_256_249 + h as usize * 741_457) % 32768
 }
 
 // What the table has for three nodes.
@@ -380,7 +380,7 @@ pub enum Verdict {
 }
 
 // Notes of what was found not to meet, three nodes to a number.
-pub type Notes = [u64; 4096];
+pub type Notes = [u64; 32768];
 
 // The verdict that three nodes have by themselves.
 fn judge(t: u32, f: u32, g: u32, h: u32) -> Verdict
@@ -402,7 +402,7 @@ fn noted(notes: &Notes, f: u32, g: u32, h: u32) -> bool
     requires { ⌜ (f < 16384) × (g < 16384) × (h < 16384) ⌝ }
     ensures { λ r. ⌜ r ≡ notedIn (now (notes .entry)) f g h ⌝ }
 {
-    notes[slot(f, g, h) % 4096] == key(f, g, h)
+    notes[slot(f, g, h)] == key(f, g, h)
 }
 
 // Puts three nodes into the notes.
@@ -410,7 +410,7 @@ fn note(notes: &mut Notes, f: u32, g: u32, h: u32)
     requires { ⌜ (f < 16384) × (g < 16384) × (h < 16384) ⌝ }
     ensures { λ _. ⌜ now (notes .exit) ≡ withNote (now (notes .entry)) f g h ⌝ }
 {
-    let i = slot(f, g, h) % 4096;
+    let i = slot(f, g, h);
     notes[i] = key(f, g, h);
 }
 
@@ -454,17 +454,49 @@ fn meets_anew(words: &[u32], count: u32, t: u32, f: u32, g: u32, h: u32) -> bool
     ensures { λ r. ⌜ r ≡ meets (now (words .entry)) t f g h ⌝ }
 {
     let none = key(1 - t, 0, 0);
-    let mut notes: Notes = [none; 4096];
+    let mut notes: Notes = [none; 32768];
     meets_in(words, &mut notes, count, t, f, g, h)
 }
 
-// The same, and no notes are made where the nodes themselves have the verdict.
+// What was found in a bounded number of steps, and how many are left.
+pub struct Tried {
+    pub verdict: Verdict,
+    pub left: u32,
+}
+
+// Whether some assignment takes three nodes to the terminal t, by their parts, in so many steps at most: open where these are not enough.
+fn meets_within(words: &[u32], count: u32, left: u32, t: u32, f: u32, g: u32, h: u32) -> Tried
+    requires { ⌜ Asks (now words) count t f g h ⌝ }
+    ensures { λ r. ⌜ Settles (r .verdict) (meets (now (words .entry)) t f g h) ⌝ }
+{
+    let p = judge(t, f, g, h);
+    match p {
+        Verdict::No => Tried { verdict: p, left },
+        Verdict::Yes => Tried { verdict: p, left },
+        Verdict::Open => {
+            if left == 0 {
+                return Tried { verdict: p, left };
+            }
+            let d = divide(words, f, g, h);
+            let x = meets_within(words, count, left - 1, t, d.f0, d.g0, d.h0);
+            let v = x.verdict;
+            match v {
+                Verdict::No => meets_within(words, count, x.left, t, d.f1, d.g1, d.h1),
+                Verdict::Yes => x,
+                Verdict::Open => x,
+            }
+        }
+    }
+}
+
+// The same with no bound. Most nodes need few steps, and notes are made for the others alone.
 fn meet(words: &[u32], count: u32, t: u32, f: u32, g: u32, h: u32) -> bool
     requires { ⌜ Asks (now words) count t f g h ⌝ }
     ensures { λ r. ⌜ r ≡ meets (now (words .entry)) t f g h ⌝ }
 {
-    let p = judge(t, f, g, h);
-    match p {
+    let r = meets_within(words, count, 1024, t, f, g, h);
+    let v = r.verdict;
+    match v {
         Verdict::No => false,
         Verdict::Yes => true,
         Verdict::Open => meets_anew(words, count, t, f, g, h),

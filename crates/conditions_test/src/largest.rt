@@ -84,7 +84,7 @@ fn fill_up(words: &mut [u32])
 {
     fill(words, 16383);
     if nodes::is_standard(words, 16383) {
-        let mut table: Table = [0; 8192];
+        let mut table: Table = [0; 32768];
         let s = Store {
             count: 16383,
             full: false,

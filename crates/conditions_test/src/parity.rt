@@ -92,7 +92,7 @@ fn negated(words: &mut [u32], table: &mut Table, s: Store, p: u32)
 // With the terminals that is 168. The negation has one node more, on variable 8: 169 nodes are 507 words.
 pub fn run() {
     let mut words = [0u32; 507];
-    let mut table: Table = [0; 8192];
+    let mut table: Table = [0; 32768];
     let s = start(&mut words, &table);
     let p = parity(&mut words, &mut table, s);
     built(b"p is parity", p);

@@ -33,7 +33,7 @@ fn use_up(words: &mut [u32], table: &mut Table, s: Store)
 fn left(words: &mut [u32])
     requires { ⌜ 6 ≤ length (now words) ⌝ }
 {
-    let mut table: Table = [0; 8192];
+    let mut table: Table = [0; 32768];
     let s = start(words, &table);
     use_up(words, &mut table, s);
     list(b"left", words);

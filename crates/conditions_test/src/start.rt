@@ -8,7 +8,7 @@ ghost use Rattle.conditions.specs.Contract.{Sound};
 
 // The two terminals, and a table that remembers nothing.
 pub fn start(words: &mut [u32], table: &Table) -> Store
-    requires { ⌜ (6 ≤ length (now words)) × (now table ≡ replicate 8192 0) ⌝ }
+    requires { ⌜ (6 ≤ length (now words)) × (now table ≡ replicate 32768 0) ⌝ }
     ensures { λ s. ⌜ Sound (now (words .exit)) (now (table .entry)) s ⌝ }
 {
     nodes::store_terminals(words);

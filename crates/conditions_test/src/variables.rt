@@ -101,7 +101,7 @@ fn choice(words: &mut [u32], table: &mut Table, s: Store)
 // One after the other. Besides the terminals there are variables 8, 63, 0, 7 and 9, the choice, and Any of it: 9 nodes in 27 words.
 pub fn run() {
     let mut words = [0u32; 27];
-    let mut table: Table = [0; 8192];
+    let mut table: Table = [0; 32768];
     let s = start(&mut words, &table);
     let a = user(&mut words, &mut table, s);
     let b = border(&mut words, &mut table, a.store);

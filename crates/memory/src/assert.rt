@@ -200,7 +200,7 @@ impl Record {
                 answer: AssertAnswer::Refused(4),
             };
         }
-        let mut table: Table = [0; 8192];
+        let mut table: Table = [0; 32768];
         self.assert_on(words, list, &mut table, b, address, data)
     }
 }

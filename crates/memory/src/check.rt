@@ -122,7 +122,7 @@ impl Record {
                 answer: CheckAnswer::Refused(4),
             };
         }
-        let mut table: Table = [0; 8192];
+        let mut table: Table = [0; 32768];
         self.check_on(words, list, &mut table, b, address, data)
     }
 }

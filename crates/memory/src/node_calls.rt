@@ -120,7 +120,7 @@ impl Record {
                 answer: NodeAnswer::Refused(k),
             };
         }
-        let mut table: Table = [0; 8192];
+        let mut table: Table = [0; 32768];
         let b = conditions::variable(words, &mut table, self.begin(), v);
         if overflowed(words, self.count, b.store) {
             return NodeResult {
@@ -153,7 +153,7 @@ impl Record {
                 answer: NodeAnswer::Refused(k),
             };
         }
-        let mut table: Table = [0; 8192];
+        let mut table: Table = [0; 32768];
         let b = conditions::ite(words, &mut table, self.begin(), f, g, h);
         if overflowed(words, self.count, b.store) {
             return NodeResult {

@@ -142,7 +142,7 @@ impl Record {
                 answer: ReadAnswer::Refused(4),
             };
         }
-        let mut table: Table = [0; 8192];
+        let mut table: Table = [0; 32768];
         self.read_on(words, list, &mut table, enable, address, answer)
     }
 }

@@ -121,7 +121,7 @@ impl Record {
                 answer: WriteAnswer::Refused(4),
             };
         }
-        let mut table: Table = [0; 8192];
+        let mut table: Table = [0; 32768];
         self.write_on(words, list, &mut table, enable, address, data)
     }
 }

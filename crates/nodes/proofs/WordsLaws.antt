@@ -1,15 +1,15 @@
 -- A node's words read and replaced.
-use mathlib.Core.Path.{_≡_, refl, _∙_}
-use mathlib.Core.Bool.{Bool, true, false}
+use mathlib.Core.Path.{_≡_, refl, sym, _∙_}
+use mathlib.Core.Bool.{Bool, true, false, false≢true}
 use mathlib.Core.List.{List}
 use Prim.Native.Nat.{ℕ, _+_, _*_, _<_}
 use native.Mathlib.Omega.{arith}
 use lib.Dec.{eqb}
 use lib.ListN.{length, getD, set, length-set}
 use lib.Seq.{getD-set-same, getD-set-other}
-use borrow.Author.Tests.{eq-eqb, ne-eqb, eqb-true}
+use borrow.Author.Tests.{eq-eqb, eqb-true}
 use Rattle.nodes.specs.Words.{varAt, lowAt, highAt, hasWords, withNode}
-use Rattle.nodes.proofs.BoolLaws.{and-both}
+use Rattle.nodes.proofs.BoolLaws.{and-both, iff-same}
 
 -- the three words that `hasWords` tells
 pub record Has (w : List ℕ) (v lo hi n : ℕ) : Type 0 where
@@ -30,17 +30,17 @@ module _ (w : List ℕ) (v lo hi n : ℕ) where
   has-words e = rw (eq-eqb _ _ (e .var), eq-eqb _ _ (e .low), eq-eqb _ _ (e .high))
 
   -- the test word by word, up to the first that differs
-  pub var-differs : {a : ℕ} → a ≡ varAt w n → (a ≡ v → ⊥) → false ≡ hasWords w v lo hi n
-  unfolding hasWords
-  var-differs e h = rw (← e, ne-eqb _ _ h)
+  pub high-differs : {c : ℕ} → c ≡ highAt w n → (c ≡ hi → ⊥) → false ≡ hasWords w v lo hi n
+  high-differs ec h = iff-same _ _ (λ e. absurd (false≢true e)) (λ t. absurd (h (ec ∙ words-has t .high)))
 
-  pub low-differs : {a b : ℕ} → a ≡ varAt w n → a ≡ v → b ≡ lowAt w n → (b ≡ lo → ⊥) → false ≡ hasWords w v lo hi n
-  unfolding hasWords
-  low-differs ea av eb h = rw (← ea, eq-eqb _ _ av, ← eb, ne-eqb _ _ h)
+  pub low-differs : {b : ℕ} → b ≡ lowAt w n → (b ≡ lo → ⊥) → false ≡ hasWords w v lo hi n
+  low-differs eb h = iff-same _ _ (λ e. absurd (false≢true e)) (λ t. absurd (h (eb ∙ words-has t .low)))
 
-  pub high-decides : {a b c : ℕ} → a ≡ varAt w n → a ≡ v → b ≡ lowAt w n → b ≡ lo → c ≡ highAt w n → eqb c hi ≡ hasWords w v lo hi n
-  unfolding hasWords
-  high-decides ea av eb bl ec = rw (ec, eq-eqb (varAt w n) v (cc), eq-eqb (lowAt w n) lo (cc))
+  pub var-decides : {a b c : ℕ} → c ≡ highAt w n → c ≡ hi → b ≡ lowAt w n → b ≡ lo → a ≡ varAt w n → eqb a v ≡ hasWords w v lo hi n
+  var-decides ec ch eb bl ea =
+      iff-same _ _
+      (λ t. has-words (record { var = sym ea ∙ eqb-true _ _ t; low = sym eb ∙ bl; high = sym ec ∙ ch }))
+      (λ t. eq-eqb _ _ (ea ∙ words-has t .var))
 
 module _ (w : List ℕ) (n v lo hi : ℕ) where
   pub node-length : length (withNode w n v lo hi) ≡ length w

@@ -44,18 +44,18 @@ pub fn high(words: &[u32], node: u32) -> u32
     words[k + 2]
 }
 
-// Whether a node has these three words.
+// Whether a node has these three words. The children tell nodes apart sooner than the variable.
 pub fn has_words(words: &[u32], v: u32, lo: u32, hi: u32, node: u32) -> bool
     requires { ⌜ node * 3 + 2 < length (now words) ⌝ }
     ensures { λ r. ⌜ r ≡ hasWords (now (words .entry)) v lo hi node ⌝ }
 {
-    if top(words, node) != v {
+    if high(words, node) != hi {
         return false;
     }
     if low(words, node) != lo {
         return false;
     }
-    high(words, node) == hi
+    top(words, node) == v
 }
 
 // Stores a node's three words at its number.

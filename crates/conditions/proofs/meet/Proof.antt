@@ -1,11 +1,11 @@
 use borrow.Author.Needs.{needs}
-use mathlib.Core.Path.{sym, _∙_}
-use Rattle.conditions.proofs.MeetLaws.{meets-no, meets-yes}
+use mathlib.Core.Path.{sym}
+use Rattle.conditions.proofs.MeetLaws.{settles-no, settles-yes}
 use Rattle.conditions.proofs.meet.Statement.{statement}
 use Rattle.conditions.proofs.meet.Tie as tie
 
-judge-requires : tie.Need-judge-requires
-judge-requires c κs = search needs
+meets-within-requires : tie.Need-meets-within-requires
+meets-within-requires c κs = search needs
 
 enum-told : tie.Need-enum-told
 enum-told c = search needs
@@ -20,10 +20,10 @@ meets-anew-requires : tie.Need-meets-anew-requires
 meets-anew-requires c κs = search needs
 
 returns : tie.Need-returns
-returns c = meets-no (c .before .before .before .before .pre) (sym (c .before .before .judge .ensures) ∙ c .enum-told .given .1)
+returns c = settles-no _ (c .before .before .meets-within .ensures) (c .enum-told .given .1)
 
 returns-2 : tie.Need-returns-2
-returns-2 c = meets-yes (c .before .before .before .before .pre) (sym (c .before .before .judge .ensures) ∙ c .enum-told2 .given .1)
+returns-2 c = settles-yes _ (c .before .before .meets-within .ensures) (c .enum-told2 .given .1)
 
 returns-3 : tie.Need-returns-3
 returns-3 c = search needs
@@ -32,7 +32,7 @@ pub meet-spec : {M : Type 1} → statement M
 meet-spec =
     tie.close
     (tie.spec
-    judge-requires
+    meets-within-requires
     enum-told
     enum-told-2
     enum-told-3

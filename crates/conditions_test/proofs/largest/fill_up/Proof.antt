@@ -12,7 +12,7 @@ is-standard-requires : tie.Need-is-standard-requires
 is-standard-requires c κs = search needs
 
 take-last-requires : tie.Need-take-last-requires
-take-last-requires c κs = (zeros-sound _ 8192 (standard-is _ _ (sym (c .before .before .before .is-standard .ensures) ∙ c .before .before .if1 .taken)), lit< tt)
+take-last-requires c κs = (zeros-sound _ 32768 (standard-is _ _ (sym (c .before .before .before .is-standard .ensures) ∙ c .before .before .if1 .taken)), lit< tt)
 
 same-length : tie.Need-same-length
 same-length c = search needs

@@ -52,7 +52,7 @@ assert-on-requires : tie.Need-assert-on-requires
 assert-on-requires c κs =
     let K = (memory-valid (stateOf (c .before .before .before .before .before .before .before .before .before .before .before .before .before .before .args .self) (now (c .before .before .before .before .before .before .before .before .before .before .before .before .before .before .args .words)) (now (c .before .before .before .before .before .before .before .before .before .before .before .before .before .before .args .list))) (c .before .before .before .before .before .before .before .memory-row .ensures) (c .before .before .before .before .before .before .if1 .left)) in
     let N = and-both (eqb (length (now (c .before .before .before .before .before .before .before .before .before .before .before .before .before .before .args .address))) (2 * c .before .before .before .before .before .before .before .before .before .before .before .before .before .before .args .self .n)) (eqb (length (now (c .before .before .before .before .before .before .before .before .before .before .before .before .before .before .args .«data»))) (2 * c .before .before .before .before .before .before .before .before .before .before .before .before .before .before .args .self .w)) (not-false ((eqb (length (now (c .before .before .before .before .before .before .before .before .before .before .before .before .before .before .args .address))) (2 * c .before .before .before .before .before .before .before .before .before .before .before .before .before .before .args .self .n)) && (eqb (length (now (c .before .before .before .before .before .before .before .before .before .before .before .before .before .before .args .«data»))) (2 * c .before .before .before .before .before .before .before .before .before .before .before .before .before .before .args .self .w))) (c .before .before .before .if2 .left)) in
-    (K, zeros-sound _ 8192 (valid-standard (stateOf (c .before .before .before .before .before .before .before .before .before .before .before .before .before .before .args .self) (now (c .before .before .before .before .before .before .before .before .before .before .before .before .before .before .args .words)) (now (c .before .before .before .before .before .before .before .before .before .before .before .before .before .before .args .list))) K), eqb-true _ _ (N .0), eqb-true _ _ (N .1))
+    (K, zeros-sound _ 32768 (valid-standard (stateOf (c .before .before .before .before .before .before .before .before .before .before .before .before .before .before .args .self) (now (c .before .before .before .before .before .before .before .before .before .before .before .before .before .before .args .words)) (now (c .before .before .before .before .before .before .before .before .before .before .before .before .before .before .args .list))) K), eqb-true _ _ (N .0), eqb-true _ _ (N .1))
 
 same-length-5 : tie.Need-same-length-5
 same-length-5 c = search needs

@@ -24,7 +24,7 @@ begin-requires c κs = search needs
 ite-requires : tie.Need-ite-requires
 ite-requires c κs =
     let H = ite-holds (recordOf (c .before .before .before .before .before .before .before .args .self)) (now (c .before .before .before .before .before .before .before .args .words)) (c .before .before .before .before .before .before .before .args .f) (c .before .before .before .before .before .before .before .args .g) (c .before .before .before .before .before .before .before .args .h) (c .before .before .before .before .ite-row .ensures) (c .before .before .before .if1 .left) in
-    rw (c .begin .ensures) (zeros-sound _ 8192 (H .0), user-is _ _ _ (H .1) .0, user-is _ _ _ (H .2) .0, user-is _ _ _ (H .3) .0)
+    rw (c .begin .ensures) (zeros-sound _ 32768 (H .0), user-is _ _ _ (H .1) .0, user-is _ _ _ (H .2) .0, user-is _ _ _ (H .3) .0)
 
 overflowed-requires : tie.Need-overflowed-requires
 overflowed-requires c κs =

@@ -46,7 +46,7 @@ read-on-requires : tie.Need-read-on-requires
 read-on-requires c κs =
     let K = (memory-valid (stateOf (c .before .before .before .before .before .before .before .before .before .before .before .before .before .before .args .self) (now (c .before .before .before .before .before .before .before .before .before .before .before .before .before .before .args .words)) (now (c .before .before .before .before .before .before .before .before .before .before .before .before .before .before .args .list))) (c .before .before .before .before .before .before .before .memory-row .ensures) (c .before .before .before .before .before .before .if1 .left)) in
     let N = and3 (eqb (length (now (c .before .before .before .before .before .before .before .before .before .before .before .before .before .before .args .enable))) 2) (eqb (length (now (c .before .before .before .before .before .before .before .before .before .before .before .before .before .before .args .address))) (2 * c .before .before .before .before .before .before .before .before .before .before .before .before .before .before .args .self .n)) (eqb (length (now (c .before .before .before .before .before .before .before .before .before .before .before .before .before .before .args .answer))) (2 * c .before .before .before .before .before .before .before .before .before .before .before .before .before .before .args .self .w)) (not-false ((eqb (length (now (c .before .before .before .before .before .before .before .before .before .before .before .before .before .before .args .enable))) 2) && (eqb (length (now (c .before .before .before .before .before .before .before .before .before .before .before .before .before .before .args .address))) (2 * c .before .before .before .before .before .before .before .before .before .before .before .before .before .before .args .self .n)) && (eqb (length (now (c .before .before .before .before .before .before .before .before .before .before .before .before .before .before .args .answer))) (2 * c .before .before .before .before .before .before .before .before .before .before .before .before .before .before .args .self .w))) (c .before .before .before .if2 .left)) in
-    (K, zeros-sound _ 8192 (valid-standard (stateOf (c .before .before .before .before .before .before .before .before .before .before .before .before .before .before .args .self) (now (c .before .before .before .before .before .before .before .before .before .before .before .before .before .before .args .words)) (now (c .before .before .before .before .before .before .before .before .before .before .before .before .before .before .args .list))) K), eqb-true _ _ (N .0), eqb-true _ _ (N .1), eqb-true _ _ (N .2))
+    (K, zeros-sound _ 32768 (valid-standard (stateOf (c .before .before .before .before .before .before .before .before .before .before .before .before .before .before .args .self) (now (c .before .before .before .before .before .before .before .before .before .before .before .before .before .before .args .words)) (now (c .before .before .before .before .before .before .before .before .before .before .before .before .before .before .args .list))) K), eqb-true _ _ (N .0), eqb-true _ _ (N .1), eqb-true _ _ (N .2))
 
 same-length-3 : tie.Need-same-length-3
 same-length-3 c = search needs

@@ -24,7 +24,7 @@ begin-requires c κs = search needs
 variable-requires : tie.Need-variable-requires
 variable-requires c κs =
     let H = variable-holds (recordOf (c .before .before .before .before .before .before .before .args .self)) (now (c .before .before .before .before .before .before .before .args .words)) (c .before .before .before .before .before .before .before .args .v) (c .before .before .before .before .variable-row .ensures) (c .before .before .before .if1 .left) in
-    rw (c .begin .ensures) (zeros-sound _ 8192 (H .0), H .1)
+    rw (c .begin .ensures) (zeros-sound _ 32768 (H .0), H .1)
 
 overflowed-requires : tie.Need-overflowed-requires
 overflowed-requires c κs =
