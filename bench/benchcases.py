@@ -315,6 +315,31 @@ def parity_benches(maker):
                       "28 writes at n=4, w=4, parities of two halves of the variables in all places, then 200 reads")
 
 
+# Two counters.
+
+def not_at(case, modulus, steps, start, target):
+    """The node that holds unless `start` and the steps of the variables that are 1 add up to `target`."""
+    reached = [{start}]
+    for step in steps:
+        reached.append({state for old in reached[-1] for state in (old, (old + step) % modulus)})
+    below = {state: int(state != target) for state in reached[-1]}
+    for level in reversed(range(len(steps))):
+        below = {state: case.node(USER + level, below[state], below[(state + steps[level]) % modulus])
+                 for state in sorted(reached[level])}
+    return below[start]
+
+
+def counters(modulus):
+    """A read whose enable is two counters that are never both at 0, for all their steps are odd and one began at 1:
+    a pair that is legal everywhere, which shows in many pairs of nodes alone."""
+    rng = Random(modulus)
+    case = CaseFile()
+    first, second = (not_at(case, modulus, [2 * rng.below(modulus // 2) + 1 for _ in PARITY], start, 0)
+                     for start in (0, 1))
+    case.read((first, second), [ZERO])
+    return case
+
+
 # Cases that must end in well under a second.
 
 def must_be_fast(maker):
@@ -340,6 +365,8 @@ def must_be_fast(maker):
     neither = (nodes.odd, nodes.almost_even)
     data = nodes.with_access(lambda case: case.write(ONE, [neither], [ONE]))
     yield Bench(kind, "one-of-2-56", data, "a pair that is illegal only under one of 2^56 assignments (6)")
+    yield Bench(kind, "counters-24", counters(24).bytes(),
+                "an enable of two counters modulo 24 over 56 variables, legal everywhere")
     yield Bench(kind, "file-5461", file_of_nodes(5459).bytes(), "a store of 5,461 nodes from a file")
     yield Bench(kind, "2730-writes", full_list(1, 1, constant_address, constant_data).bytes(), "2,730 writes")
     yield Bench(kind, "1300-and-1300", writes_and_reads(1300, 1300).bytes(), "1,300 writes and 1,300 reads")

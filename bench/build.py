@@ -1,4 +1,4 @@
-"""Builds the benchmark's program over BuDDy, where its library is there."""
+"""Builds the benchmark's own programs: the one over BuDDy, and the one that calls the library."""
 
 import os
 import subprocess
@@ -9,6 +9,8 @@ ROOT = os.path.dirname(HERE)
 TOOLS = os.path.join(ROOT, "tools")
 FOLDER = os.path.join(ROOT, "target", "bench")
 SOURCE = os.path.join(HERE, "memcase_buddy.cpp")
+CALLS = os.path.join(HERE, "calls.c")
+ARCHIVE = os.path.join(ROOT, "target", "staticlib", "libcapi.a")
 
 # Static, so that no loading of shared libraries counts as BuDDy's start-up.
 COMPILE = ["g++", "-O2", "-std=c++17", "-Wall", "-Wextra", "-static"]
@@ -29,4 +31,15 @@ def buddy_program():
         sys.exit("BuDDy is not there: apt-get install libbdd-dev")
     if done.returncode != 0:
         sys.exit(done.stderr)
+    return program
+
+
+def calls_program():
+    """The path of the program that times single calls of the library."""
+    if not os.path.exists(ARCHIVE):
+        sys.exit("%s is not there: rt staticlib capi builds it" % os.path.relpath(ARCHIVE))
+    os.makedirs(FOLDER, exist_ok=True)
+    program = os.path.join(FOLDER, "calls")
+    subprocess.run(["gcc", "-O2", "-std=gnu99", "-Wall", "-Wextra", "-I", os.path.join(ROOT, "include"),
+                    "-o", program, CALLS, ARCHIVE], check=True)
     return program

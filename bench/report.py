@@ -10,7 +10,8 @@ Row = namedtuple("Row", "kind name what nodes memcase buddy skip")
 Fast = namedtuple("Fast", "what memcase clock buddy")
 Location = namedtuple("Location", "locations nodes memcase buddy")
 Growth = namedtuple("Growth", "x nodes reads memcase buddy")
-Figures = namedtuple("Figures", "date cores runs start rows fast locations growth why")
+Call = namedtuple("Call", "what nodes microseconds row")
+Figures = namedtuple("Figures", "date cores runs start rows fast calls locations growth why")
 
 # The goals.
 WHOLE_GOAL = 1.0
@@ -92,6 +93,28 @@ def fast_lines(figures):
 FAST_HEADER = ("case", "memcase ms", "by the clock ms", "BuDDy ms", "under %g s" % WELL_UNDER)
 
 
+def row_2_lines(figures):
+    """Fast against plain, by the number of nodes."""
+    found = {(call.what, call.nodes): call.microseconds for call in figures.calls}
+    for call in figures.calls:
+        if call.what == "fast":
+            plain = found["plain", call.nodes]
+            yield (str(call.nodes), "%.4f" % (call.microseconds / 1000), "%.4f" % (plain / 1000),
+                   "%.0f" % (plain / call.microseconds))
+
+
+ROW_2_HEADER = ("nodes", "fast ms", "plain ms", "times")
+
+
+def call_lines(figures):
+    for call in figures.calls:
+        if call.what not in ("fast", "plain"):
+            yield call.what, str(call.nodes), "%.2f" % call.microseconds
+
+
+CALL_HEADER = ("call", "nodes", "us a call")
+
+
 def location_lines(rows):
     first = rows[0]
     for row in rows:
@@ -143,7 +166,9 @@ def start_text(figures):
 def summary(figures):
     """What the command prints."""
     parts = [printed_table(KIND_HEADER, kind_lines(figures)), start_text(figures),
-             printed_table(FAST_HEADER, fast_lines(figures))]
+             printed_table(FAST_HEADER, fast_lines(figures)),
+             "Row 2's test in a library call\n" + printed_table(ROW_2_HEADER, row_2_lines(figures)),
+             "Library calls on a small store\n" + printed_table(CALL_HEADER, call_lines(figures))]
     for _, title, rows in figures.locations:
         parts.append("Locations, w=16: " + title + "\n" + printed_table(LOCATION_HEADER, location_lines(rows)))
     for series, rows in figures.growth:
@@ -176,6 +201,8 @@ def markdown(figures):
              "## Against BuDDy", AGAINST, markdown_table(KIND_HEADER, kind_lines(figures)), start_text(figures),
              "### Goals not met", "\n".join(not_met(figures)) or "None.", *([figures.why] if figures.why else []),
              "## Cases that must end in well under a second", markdown_table(FAST_HEADER, fast_lines(figures)),
+             "## A library call", CALLS, markdown_table(ROW_2_HEADER, row_2_lines(figures)),
+             SMALL_CALLS, markdown_table(CALL_HEADER, call_lines(figures)),
              "## How the cost of a read grows", GROWTH]
     for series, rows in figures.growth:
         parts += ["### " + series.title[0].upper() + series.title[1:],
@@ -198,6 +225,10 @@ def introduction(figures):
 
 
 AGAINST = """`bench/memcase_buddy.cpp` is the same accesses over BuDDy, the same steps of 01 in the same order of variables, compiled with -O2. It does not count nodes as 01 does, so it leaves out the bookkeeping that refusal 9 asks for. `--skip` is the same program that leaves out an entry as soon as its match is false everywhere; 01 builds Or(e,r) for such an entry too, so a program that counts nodes cannot. Ratios are memcase's time over BuDDy's: of the sums, and the geometric mean over the cases. The goal is a ratio of the sums of at most 3 for each kind and at most 1 for the whole set."""
+
+CALLS = """`bench/calls.c` calls the library as a simulator does: evaluate, on a store of so many nodes. What it takes is row 2's test. `fast` is a store in standard form; in `plain` the last node repeats the one before it, so that the certificate fails, every two nodes are compared and the call is refused by 2. Microseconds of the processor, the least of 9 rounds."""
+
+SMALL_CALLS = """The same on a store of 40 nodes, with constants as arguments: what a call costs that has next to nothing to do. An access and Ite make a computed table of 32,768 places, which is most of it."""
 
 GROWTH = """The cost of one read: the time of a case with reads less that of the same case without, divided by the number of reads. The reads of constants go through the whole list. A dash stands where the difference is not above the noise."""
 

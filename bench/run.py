@@ -84,6 +84,13 @@ def fast_table(bench, maker):
     return rows
 
 
+def call_table():
+    """Times of single calls of the library."""
+    done = subprocess.run([build.calls_program()], stdout=subprocess.PIPE, check=True, text=True)
+    lines = [line.split("\t") for line in done.stdout.splitlines()]
+    return [report.Call(what, int(nodes), float(micro), int(row)) for what, nodes, micro, row in lines]
+
+
 def location_tables(bench):
     tables = []
     for name, title, points in benchcases.location_benches():
@@ -128,7 +135,7 @@ def main():
     found = report.Figures(
         date=datetime.date.today().isoformat(), cores=os.cpu_count(), runs=bench.meter.runs,
         start=[result.seconds for result in empty], rows=kinds_table(bench, maker, options.quick),
-        fast=fast_table(bench, maker), locations=location_tables(bench),
+        fast=fast_table(bench, maker), calls=call_table(), locations=location_tables(bench),
         growth=growth_tables(bench, maker, options.quick), why=None)
 
     print(report.summary(found))
