@@ -33,7 +33,7 @@ use Rattle.model.proofs.AccessLaws.{AssertedMean}
 use Rattle.model.proofs.RowLaws.{rows-hold}
 use Rattle.model.proofs.StepLaws.{isKept, Holds, Follows, step-follows, free-store, pair-is, and3, assert-builds, enter-builds}
 use Rattle.model.proofs.ThirdLaws.{third-is}
-use Rattle.model.proofs.EntryLaws.{held, holds-values, holds-enters}
+use Rattle.model.proofs.EntryLaws.{held, holds-values, holds-enters, holds-stays}
 
 -- a call that is not refused meets no row, and acts
 acts : (c : Call) (s : State) → isRefused (step c s .answer) ≡ false → (refusal c s ≡ 0) × (step c s ≡ act c s)
@@ -115,6 +115,18 @@ module _ (a : ℕ) (small : a < 2 ^ 64) (s : State) where
       let F = step-follows a small s (held φ s) (values-held (Q .1 .0) (Q .1 .1 .0)) (read e x out) in
       same-admit _ _ (λ b. rw q at (F .bits (λ j. false) [] i l b))
 
+  read-stays : (e x out ws : List ℕ) → step (read e x out) s .answer ≡ filled ws → entryValues φ (step (read e x out) s .after) ≡ entryValues φ s
+  read-stays e x out ws q =
+      let Q = rows-hold (readRows r (s .words) (s .list) e x out) refl (acts (read e x out) s (ap isRefused q) .0) in
+      let F = step-follows a small s (held φ s) (values-held (Q .1 .0) (Q .1 .1 .0)) (read e x out) in
+      holds-stays φ s _ _ (F .same-w) (rw q at (F .holds))
+
+  check-stays : (b : ℕ) (x d : List ℕ) → step (check b x d) s .answer ≡ accepted → entryValues φ (step (check b x d) s .after) ≡ entryValues φ s
+  check-stays b x d q =
+      let Q = rows-hold (checkRows r (s .words) (s .list) b x d) refl (acts (check b x d) s (ap isRefused q) .0) in
+      let F = step-follows a small s (held φ s) (values-held (Q .1 .0) (Q .1 .1 .0)) (check b x d) in
+      holds-stays φ s _ _ (F .same-w) (rw q at (F .holds))
+
   check-condition : (b : ℕ) (x d : List ℕ) → step (check b x d) s .answer ≡ accepted
       → value (step (check b x d) s .after .words) φ (step (check b x d) s .after .rec .checked)
       ≡ (value (s .words) φ (r .checked) && checkHolds (r .n) (r .w) (entryValues φ s) (value (s .words) φ b) (addressArgument φ s x) (wordArgument φ s d))
@@ -192,6 +204,11 @@ demand2 s a small =
       read-fills = read-fills a small s;
       assert-condition = assert-condition a small s;
       assert-kept = λ b x d q. T→eq _ ((rw q at (assert-follows a small s b x d (ap isRefused q) .accepted)) .3);
+      read-stays = read-stays a small s;
+      kept-stays = λ b x d q.
+          let F = assert-follows a small s b x d (ap isRefused q) in
+          holds-stays (bitAt a) s _ _ (F .same-w) (rw q at (F .holds));
+      check-stays = check-stays a small s;
       assert-enters = λ b x d q.
           let F = assert-follows a small s b x d (ap isRefused q) in
           holds-enters (bitAt a) s _ (control (value (s .words) (bitAt a) b)) x d (F .same-w) (rw q at (F .holds));

@@ -1,7 +1,7 @@
 -- Words and their values, each way: users mean the pairs and entries of their values, and words that mean pairs or an entry have these values.
 use mathlib.Core.Path.{_≡_, refl, sym, ap, _∙_}
 use mathlib.Core.Bool.{Bool, false}
-use mathlib.Core.List.{List, [], _∷_}
+use mathlib.Core.List.{List, [], _∷_, _++_}
 use Prim.Native.Nat.{ℕ, zero, suc, _+_, _*_, _<_}
 use native.Mathlib.Omega.{arith}
 use lib.ListN.{length, getD, length-append}
@@ -84,10 +84,39 @@ halves-pairs {σ} {u} {k} {w} {s} {ws} qs H free len =
 entry-is : (φ : ℕ → Bool) (s : State) (j : ℕ) (e : Entry) → EntryMeans φ (s .rec) e (s .words) (begin (s .rec)) (entryAt (s .rec) (s .list) j) → length (e .word) ≡ s .rec .w → entryValue φ s j ≡ e
 entry-is φ s j e M len = λ i. record { hard = M .hard .is refl φ (near-self φ) i; soft = M .soft .is refl φ (near-self φ) i; address = halves-pairs (e .address) (M .address) refl (M .sized) i; word = halves-pairs (e .word) (M .word) refl len i }
 
--- a state that holds one entry more, the published one, has it at the place after the last
+-- each entry of a list has w data pairs
+abbrev Sizes : ℕ → List Entry → Type 0
+Sizes w [] = Unit {0}
+Sizes w (e ∷ es) = (length (e .word) ≡ w) × Sizes w es
+
+size-at : (w : ℕ) (es : List Entry) → Sizes w es → (j : ℕ) → j < length es → length (getD es j noEntry .word) ≡ w
+size-at w [] S j h = absurd (omega arith)
+size-at w (e ∷ es) S zero h = S .0
+size-at w (e ∷ es) S (suc j) h = size-at w es (S .1) j (omega arith)
+
+sizes-more : (w : ℕ) (es : List Entry) (e : Entry) → Sizes w es → length (e .word) ≡ w → Sizes w (es ++ (e ∷ []))
+sizes-more w [] e S h = (h, tt)
+sizes-more w (x ∷ es) e S h = (S .0, sizes-more w es e (S .1) h)
+
+sizes-values : (φ : ℕ → Bool) (s : State) (j k : ℕ) → Sizes (s .rec .w) (entriesFrom φ s j k)
+sizes-values φ s j zero = tt
+sizes-values φ s j (suc k) = (length-pairs φ (s .words) _ 0 (s .rec .w), sizes-values φ s (suc j) k)
+
+-- a state that holds these entries has them as values
+holds-are : (φ : ℕ → Bool) (t : State) (h : Held) → Holds φ t h → Sizes (t .rec .w) (h .entries) → entryValues φ t ≡ h .entries
+holds-are φ t h H S =
+    let l = length-entries φ t 0 (t .rec .entries) in
+    ext-getD noEntry (entryValues φ t) (h .entries) (l ∙ sym (H .entries .count))
+    (λ j b.
+    let m : j < t .rec .entries = omega (arith, l) in
+    entries-at φ t (t .rec .entries) 0 j j m (omega arith) ∙ entry-is φ t j (getD (h .entries) j noEntry) (H .entries .at j m) (size-at (t .rec .w) (h .entries) S j (omega (arith, H .entries .count))))
+
+-- a state that holds one entry more, the published one, has the list with it at the end
 pub holds-enters : (φ : ℕ → Bool) (s t : State) (c : Pair) (a d : List ℕ) → t .rec .w ≡ s .rec .w → Holds φ t (add (held φ s) (entry c (addressArgument φ s a) (wordArgument φ s d))) → Enters φ s t c a d
 holds-enters φ s t c a d same H =
     let e = entry c (addressArgument φ s a) (wordArgument φ s d) in
-    let l = length-entries φ s 0 (s .rec .entries) in
-    let m = H .entries .at (s .rec .entries) (omega (arith, l, H .entries .count, length-append (entryValues φ s) (e ∷ []))) in
-    entry-is φ t (s .rec .entries) e (rw (getD-at (entryValues φ s) e [] noEntry (s .rec .entries) l) at m) (length-pairs φ (s .words) d 0 (s .rec .w) ∙ sym same)
+    holds-are φ t (add (held φ s) e) H (rw same (sizes-more (s .rec .w) (entryValues φ s) e (sizes-values φ s 0 (s .rec .entries)) (length-pairs φ (s .words) d 0 (s .rec .w))))
+
+-- and one that holds the same entries has the same list
+pub holds-stays : (φ : ℕ → Bool) (s t : State) (b : Bool) → t .rec .w ≡ s .rec .w → Holds φ t (record { entries = entryValues φ s; condition = b }) → entryValues φ t ≡ entryValues φ s
+holds-stays φ s t b same H = holds-are φ t (record { entries = entryValues φ s; condition = b }) H (rw same (sizes-values φ s 0 (s .rec .entries)))

@@ -15,3 +15,4 @@ pub mod ValidLaws
 pub mod FrameLaws
 pub mod Demand3
 pub mod RulingLaws
+pub mod StayLaws

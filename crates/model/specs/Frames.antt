@@ -1,15 +1,20 @@
 -- 01, 'Turned down': what a refusal and a success leave, and that a valid state stays valid. And the count of entries.
 use mathlib.Core.Path.{_≡_}
-use mathlib.Core.Bool.{Bool, true, false, _&&_, _||_}
+use mathlib.Core.Bool.{Bool, true, false, not, _&&_, _||_}
 use mathlib.Core.List.{List, [], _∷_}
 use Prim.Native.Nat.{ℕ, zero, suc, _+_, _*_, _<_, _≤_}
 use lib.Dec.{eqb}
 use lib.ListN.{length, getD}
 use Rattle.nodes.specs.Extends.{Extends}
+use Rattle.conditions.specs.declared.Store.{Store}
+use Rattle.conditions.specs.Build.{Outcome}
+use Rattle.conditions.specs.Make.{Variable}
+use Rattle.conditions.specs.Ite.{Ite}
+use Rattle.model.specs.Access.{Write, Read, Asserted, Assert, Check}
 use Rattle.nodes.specs.Clear.{clearOf}
 use Rattle.model.specs.Record.{Record, size}
-use Rattle.model.specs.Rows.{row1, row2, row3}
-use Rattle.model.specs.Step.{State, Call, write, read, assert, check, evaluate, variable, ite, Answer, refused, place, filled, entered, kept, accepted, valued, node, Result, isRefused, step, run, fresh}
+use Rattle.model.specs.Rows.{row1, row2, row3, row8}
+use Rattle.model.specs.Step.{State, Call, write, read, assert, check, evaluate, variable, ite, Answer, refused, place, filled, entered, kept, accepted, valued, node, Result, isRefused, refusal, begin, step, run, fresh}
 
 -- "After 9, or 8 in an assert, all node words from the count to capacity are 0; otherwise untouched."
 abbrev pub isAssert : Call → Bool
@@ -35,6 +40,38 @@ RefusalLeaves = (c : Call) (s : State) (k : ℕ) → step c s .answer ≡ refuse
 -- a refusal's number is one of the table's
 unfoldable pub RefusalNumber : Type 0
 RefusalNumber = (c : Call) (s : State) (k : ℕ) → step c s .answer ≡ refused k → (1 ≤ k) × (k ≤ 9)
+
+-- "Make needs a node past capacity": whether the program of a call does, an assert's Write with it
+abbrev pub overflows : Call → State → Bool
+overflows (write c a d) s = Write (s .rec .n) (getD c 0 0) (getD c 1 0) a (s .words) (begin (s .rec)) .store .full
+overflows (read e a out) s = Read (s .rec) (s .list) (getD e 0 0) (getD e 1 0) a (s .words) (begin (s .rec)) .store .full
+overflows (assert b a d) s =
+    let x = Assert (s .rec) (s .list) b a d (s .words) (begin (s .rec)) in
+    x .store .full || Write (s .rec .n) b (x .answer .unless) a (x .words) (record { count = x .store .count; full = false }) .store .full
+overflows (check b a d) s = Check (s .rec) (s .list) b a d (s .words) (begin (s .rec)) .store .full
+overflows (evaluate f a) s = false
+overflows (variable v) s = Variable v (s .words) (begin (s .rec)) .store .full
+overflows (ite f g h) s = Ite f g h (s .words) (begin (s .rec)) .store .full
+
+-- a call is refused by the first row that it meets; where it meets none, by 9 where its program overflows, and in an assert by 8 where there is no space: by nothing else
+abbrev pub late : Call → State → ℕ → Bool
+late c s k = eqb k 9 && overflows c s || eqb k 8 && isAssert c && not (row8 (s .rec) (s .words) (s .list))
+
+unfoldable pub RefusedByRow : Type 0
+RefusedByRow = (c : Call) (s : State) (k : ℕ) → step c s .answer ≡ refused k → (eqb (refusal c s) k || eqb (refusal c s) 0 && late c s k) ≡ true
+
+-- the assert condition is an assert's alone to change, the check condition a check's
+abbrev pub isCheck : Call → Bool
+isCheck (write c a d) = false
+isCheck (read e a out) = false
+isCheck (assert b a d) = false
+isCheck (check b a d) = true
+isCheck (evaluate f a) = false
+isCheck (variable v) = false
+isCheck (ite f g h) = false
+
+unfoldable pub ConditionsStay : Type 0
+ConditionsStay = (c : Call) (s : State) → (isAssert c ≡ false → step c s .after .rec .asserted ≡ s .rec .asserted) × (isCheck c ≡ false → step c s .after .rec .checked ≡ s .rec .checked)
 
 -- "Success changes no older node or entry and no word past the new count."
 pub record Extended (s t : State) : Type 0 where

@@ -1,7 +1,7 @@
 -- Demand 2: "Every condition and word returned is, under each assignment, what the published write, read, assert and check give, with 01's enables".
 use mathlib.Core.Path.{_≡_}
 use mathlib.Core.Bool.{Bool, true, false, cond, _&&_}
-use mathlib.Core.List.{List, [], _∷_}
+use mathlib.Core.List.{List, [], _∷_, _++_}
 use Prim.Native.Nat.{ℕ, zero, suc, _^_, _<_}
 use lib.ListN.{getD}
 use Rattle.conditions.specs.Value.{value}
@@ -38,9 +38,9 @@ addressArgument φ s a = pairs φ (s .words) a (s .rec .n)
 abbrev pub wordArgument : (ℕ → Bool) → State → List ℕ → List Pair
 wordArgument φ s d = pairs φ (s .words) d (s .rec .w)
 
--- from s to t the published entry was made at the place after the last
+-- from s to t the published entry was put after the last, and the list is otherwise as it was: the source's InsertTail (Fig. 2)
 abbrev pub Enters : (ℕ → Bool) → State → State → Pair → List ℕ → List ℕ → Type 0
-Enters φ s t c a d = entryValue φ t (s .rec .entries) ≡ entry c (addressArgument φ s a) (wordArgument φ s d)
+Enters φ s t c a d = entryValues φ t ≡ entryValues φ s ++ (entry c (addressArgument φ s a) (wordArgument φ s d) ∷ [])
 
 -- of any state s, under one assignment, each answer and what it leaves
 pub record Meant (φ : ℕ → Bool) (s : State) : Type 0 where
@@ -51,6 +51,9 @@ pub record Meant (φ : ℕ → Bool) (s : State) : Type 0 where
       → value (step (assert b a d) s .after .words) φ (step (assert b a d) s .after .rec .asserted)
       ≡ (value (s .words) φ (s .rec .asserted) && assertHolds (s .rec .n) (s .rec .w) (entryValues φ s) (value (s .words) φ b) (addressArgument φ s a) (wordArgument φ s d))
   pub assert-kept : (b : ℕ) (a d : List ℕ) → step (assert b a d) s .answer ≡ kept → keeps (s .rec .n) (s .rec .w) (entryValues φ s) (value (s .words) φ b) (addressArgument φ s a) (wordArgument φ s d) ≡ true
+  pub read-stays : (e a out r : List ℕ) → step (read e a out) s .answer ≡ filled r → entryValues φ (step (read e a out) s .after) ≡ entryValues φ s
+  pub kept-stays : (b : ℕ) (a d : List ℕ) → step (assert b a d) s .answer ≡ kept → entryValues φ (step (assert b a d) s .after) ≡ entryValues φ s
+  pub check-stays : (b : ℕ) (a d : List ℕ) → step (check b a d) s .answer ≡ accepted → entryValues φ (step (check b a d) s .after) ≡ entryValues φ s
   pub assert-enters : (b : ℕ) (a d : List ℕ) → step (assert b a d) s .answer ≡ entered → Enters φ s (step (assert b a d) s .after) (control (value (s .words) φ b)) a d
   pub check-condition : (b : ℕ) (a d : List ℕ) → step (check b a d) s .answer ≡ accepted
       → value (step (check b a d) s .after .words) φ (step (check b a d) s .after .rec .checked)
