@@ -87,6 +87,13 @@ lowest-is {w} {c} {v} {lo} {hi} g small n h p =
     absurd (omega arith))
     (λ t. t))
 
+-- so Make answers it
+pub make-has : {w : List ℕ} (s : Store) {v : ℕ} (lo hi : ℕ) → Standard w (s .count) → v < 64 → s .full ≡ false → (n : ℕ) → n < s .count → hasWords w v lo hi n ≡ true → Make v lo hi w s ≡ pure n w s
+make-has {w} s {v} lo hi g small f n h t =
+    let p = words-has w v lo hi n t in
+    let l = has-above g small n h p .0 in
+    make-old w s v lo hi f (λ q. g .shape n l h .apart (p .low ∙ q ∙ sym (p .high))) (sym (lowest-is g small n h p)) h
+
 pub cond-both : (b : Bool) {x y z : Bool} → x ≡ y → x ≡ z → x ≡ cond b y z
 cond-both true p q = p
 cond-both false p q = q

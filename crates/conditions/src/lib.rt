@@ -104,6 +104,23 @@ fn make(words: &mut [u32], s: Store, v: u32, lo: u32, hi: u32) -> Built
     }
 }
 
+// The same, where g or h may be that node: then nothing is searched.
+fn make_near(words: &mut [u32], s: Store, v: u32, lo: u32, hi: u32, g: u32, h: u32) -> Built
+    requires { ⌜ Standard (now words) (s .count) × (v < 64) × (lo < s .count) × (hi < s .count) × (g < s .count) × (h < s .count) ⌝ }
+    ensures { λ r. ⌜ outcome (now (words .exit)) r ≡ Make v lo hi (now (words .entry)) s ⌝ }
+{
+    if s.full {
+        return Built { store: s, node: 0 };
+    }
+    if nodes::has_words(words, v, lo, hi, g) {
+        return Built { store: s, node: g };
+    }
+    if nodes::has_words(words, v, lo, hi, h) {
+        return Built { store: s, node: h };
+    }
+    make(words, s, v, lo, hi)
+}
+
 // The rules of Ite that build nothing, in their order.
 fn settle(full: bool, f: u32, g: u32, h: u32) -> Plain
     ensures { λ r. ⌜ r ≡ plainOf full f g h ⌝ }
@@ -245,7 +262,7 @@ pub fn ite(words: &mut [u32], table: &mut Table, s: Store, f: u32, g: u32, h: u3
             let d = divide(words, f, g, h);
             let x = ite(words, table, s, d.f0, d.g0, d.h0);
             let y = ite(words, table, x.store, d.f1, d.g1, d.h1);
-            let z = make(words, y.store, d.v, x.node, y.node);
+            let z = make_near(words, y.store, d.v, x.node, y.node, g, h);
             remember(table, f, g, h, z.node);
             z
         }

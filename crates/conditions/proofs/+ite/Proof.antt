@@ -11,7 +11,7 @@ use Rattle.conditions.proofs.ite.Kinds as ite-kinds
 use Rattle.conditions.proofs.+ite.Lts-ite as ite-lts
 use Rattle.conditions.proofs.divide.Reads as divide-reads
 use Rattle.conditions.proofs.known.Reads as known-reads
-use Rattle.conditions.proofs.make.Reads as make-reads
+use Rattle.conditions.proofs.make_near.Reads as make-near-reads
 use Rattle.conditions.proofs.remember.Reads as remember-reads
 use Rattle.conditions.proofs.+ite.{statement}
 use Rattle.conditions.proofs.+ite.Tie.{close}
@@ -27,7 +27,7 @@ ite-below t = and 2 ite-kinds.ps (falls 2 ite-kinds.ps _<_ μ-ite t) ite.Pre
 
 -- what the walk knows of its callees
 abbrev calls : ℕ → ite-lts.Claims
-calls t = (known-reads.Asked, known-reads.Learnt, divide-reads.Asked, divide-reads.Learnt, ite-below t, ite.Post, make-reads.Asked, make-reads.Learnt, remember-reads.Asked, remember-reads.Learnt)
+calls t = (known-reads.Asked, known-reads.Learnt, divide-reads.Asked, divide-reads.Learnt, ite-below t, ite.Post, make-near-reads.Asked, make-near-reads.Learnt, remember-reads.Asked, remember-reads.Learnt)
 
 ite-known-requires : (t : ℕ) → ite-lts.Need-known-requires (calls t) (ite-at t) ite.Post
 ite-known-requires t c κs =
@@ -72,8 +72,8 @@ ite-ite-requires-2 t c κs =
     let x = c .before .before .before .before .ite .ensures in
     (omega (arith, q .0, c .before .before .before .before .before .before .before .before .before .before .before .before .before .before .pre .0), (x .sound, omega (arith, r .first, r .second, r .third, x .more), omega (arith, r .first, r .second, r .third, x .more), omega (arith, r .first, r .second, r .third, x .more)))
 
-ite-make-requires : (t : ℕ) → ite-lts.Need-make-requires (calls t) (ite-at t) ite.Post
-ite-make-requires t c κs =
+ite-make-near-requires : (t : ℕ) → ite-lts.Need-make-near-requires (calls t) (ite-at t) ite.Post
+ite-make-near-requires t c κs =
     let a = c .before .before .before .before .before .before .before .before .before .before .before .before .before .before .before .before .before .before .args in
     let p = c .before .before .before .before .before .before .before .before .before .before .before .before .before .before .before .before .before .before .pre .1 in
     let R = sound-ready (p .0) (p .1) (p .2) (p .3) in
@@ -82,7 +82,7 @@ ite-make-requires t c κs =
     let ed = c .before .before .before .before .before .before .before .before .before .before .before .divide .ensures in
     let x = c .before .before .before .before .before .before .before .before .ite .ensures in
     let y = c .before .before .before .ite2 .ensures in
-    (y .sound .standard, split-var (a .words .now) (a .s) (a .f) (a .g) (a .h) d R e ed, omega (arith, x .node, y .more), y .node)
+    (y .sound .standard, split-var (a .words .now) (a .s) (a .f) (a .g) (a .h) d R e ed, omega (arith, x .node, y .more), y .node, omega (arith, p .2, x .more, y .more), omega (arith, p .3, x .more, y .more))
 
 ite-remember-requires : (t : ℕ) → ite-lts.Need-remember-requires (calls t) (ite-at t) ite.Post
 ite-remember-requires t c κs =
@@ -93,7 +93,7 @@ ite-remember-requires t c κs =
     let d = c .before .before .before .before .before .before .before .before .before .before .before .before .before .before .before .divide .result in
     let ed = c .before .before .before .before .before .before .before .before .before .before .before .before .before .before .before .divide .ensures in
     let m = p .0 .standard .most in
-    let q = ite-bounds (a .s) R (split-all (a .words .now) (a .s) (a .f) (a .g) (a .h) d R e ed (c .before .before .before .before .before .before .before .before .before .before .before .before .ite .ensures .is) (c .before .before .before .before .before .before .before .ite2 .ensures .is) (c .before .before .before .make .ensures)) in
+    let q = ite-bounds (a .s) R (split-all (a .words .now) (a .s) (a .f) (a .g) (a .h) d R e ed (c .before .before .before .before .before .before .before .before .before .before .before .before .ite .ensures .is) (c .before .before .before .before .before .before .before .ite2 .ensures .is) (c .before .before .before .make-near .ensures)) in
     (omega arith, omega arith, omega arith, omega (arith, q .0, q .1))
 
 ite-returns : (t : ℕ) → ite-lts.Need-returns (calls t) (ite-at t) ite.Post
@@ -104,7 +104,7 @@ ite-returns t c =
     did (ready-builds R) (known-done (a .table .now) (a .words .now) (a .s) (a .f) (a .g) (a .h) _ R (p .0 .table) (sym (c .before .before .before .known .ensures) ∙ c .before .p .given .1)) (p .0 .table)
 
 ite-same-length : (t : ℕ) → ite-lts.Need-same-length (calls t) (ite-at t) ite.Post
-ite-same-length t c = c .before .before .before .before .make .kept .0 ∙ c .before .before .before .before .before .before .before .before .ite2 .kept .0 ∙ c .before .before .before .before .before .before .before .before .before .before .before .before .before .ite .kept .0
+ite-same-length t c = c .before .before .before .before .make-near .kept .0 ∙ c .before .before .before .before .before .before .before .before .ite2 .kept .0 ∙ c .before .before .before .before .before .before .before .before .before .before .before .before .before .ite .kept .0
 
 ite-returns-2 : (t : ℕ) → ite-lts.Need-returns-2 (calls t) (ite-at t) ite.Post
 ite-returns-2 t c =
@@ -116,7 +116,7 @@ ite-returns-2 t c =
     let ed = c .before .before .before .before .before .before .before .before .before .before .before .before .before .before .before .before .divide .ensures in
     let ex = c .before .before .before .before .before .before .before .before .before .before .before .before .before .ite .ensures .is in
     let ey = c .before .before .before .before .before .before .before .before .ite2 .ensures .is in
-    let ez = c .before .before .before .before .make .ensures in
+    let ez = c .before .before .before .before .make-near .ensures in
     let y = c .before .before .before .before .before .before .before .before .ite2 .ensures .sound in
     did (ready-builds R) (split-all (a .words .now) (a .s) (a .f) (a .g) (a .h) d R e ed ex ey ez) (split-remembers (a .words .now) (a .s) (a .f) (a .g) (a .h) d R e ed ex ey ez (y .standard) (y .table) (c .remember .ensures))
 
@@ -130,7 +130,7 @@ pub +ite-spec : {M : Type 1} → statement M
     (ite-divide-requires t)
     (ite-ite-requires t)
     (ite-ite-requires-2 t)
-    (ite-make-requires t)
+    (ite-make-near-requires t)
     (ite-remember-requires t)
     (ite-returns t)
     (ite-same-length t)
