@@ -46,7 +46,7 @@ fn sizes(case: &[u8], m: Record) {
     size(b"wrong: w is ", case[1], m.w);
 }
 
-// The words of the record's entries: enable, address and data, two halves each.
+// The words of the record's entries: h and s, address and data.
 fn list_words(m: Record) -> usize {
     let n = m.n;
     let w = m.w;

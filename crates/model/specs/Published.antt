@@ -1,4 +1,4 @@
--- The published meaning, under one assignment: the source's write, first read, assert and check over Bools, with 01's enables.
+-- The published meaning, under one assignment: the source's write (document 000, Fig. 2), first read (Fig. 3), assert (Fig. 6) and check (Fig. 7) over Bools, with 01's enables and the disabled read of document 003.
 use mathlib.Core.Bool.{Bool, true, false, _&&_, _||_, not, cond}
 use mathlib.Core.List.{List, [], _∷_, _++_}
 use Prim.Native.Nat.{ℕ, zero, suc}
@@ -15,7 +15,7 @@ pub record Entry : Type 0 where
 abbrev pub certain : Pair → Bool
 certain c = c .h && not (c .l)
 
--- "h = And(hard,u). s = Or(And(c.h,c.l), And(hard, Not u))."
+-- the element that Fig. 2 inserts: "h = And(hard,u). s = Or(And(c.h,c.l), And(hard, Not u))."
 abbrev pub entry : Pair → List Pair → List Pair → Entry
 entry c a d = record {
   hard = certain c && unique a;
@@ -24,10 +24,11 @@ entry c a d = record {
   word = d;
 }
 
--- "Ite(hm, e, Ite(sm, Or(e,r), r))", both halves, at location x
+-- Fig. 3's approximate union of an element's data and the data so far
 abbrev pub union : Pair → Pair → Pair
 union e r = record { h = e .h || r .h; l = e .l || r .l }
 
+-- and its choice, at one location x of those that the address admits (`look` goes through them): "Ite(hm, e, Ite(sm, Or(e,r), r))", both halves
 abbrev pub over : Entry → List Bool → ℕ → Pair → Pair
 over e x i r =
     let m = admits (e .address) x in
@@ -53,7 +54,7 @@ look n es a i = record {
   l = anywhere n (λ x. admits a x && (cell es x i) .l);
 }
 
--- "Read(e,a): Look(a), then E = And(e.h, Not e.l), then each half Ite(E, r, 1)"
+-- document 003's disabled read gives all X: "Read(e,a): Look(a), then E = And(e.h, Not e.l), then each half Ite(E, r, 1)"
 abbrev pub answer : ℕ → List Entry → Pair → List Pair → ℕ → Pair
 answer n es e a i = cond (certain e) (look n es a i) X
 
@@ -62,7 +63,7 @@ abbrev pub inside : ℕ → (ℕ → Pair) → (ℕ → Pair) → Bool
 inside zero r d = true
 inside (suc k) r d = (not ((r zero) .h) || (d zero) .h) && (not ((r zero) .l) || (d zero) .l) && inside k (λ i. r (suc i)) (λ i. d (suc i))
 
--- what an assert and a check add to their condition: "Or(Not b, A)", "Or(Not b, C)"
+-- what an assert (Fig. 6) and a check (Fig. 7) add to their condition: "Or(Not b, A)", "Or(Not b, C)"
 abbrev pub assertHolds : ℕ → ℕ → List Entry → Bool → List Pair → List Pair → Bool
 assertHolds n w es b a d = not b || inside w (at d) (look n es a)
 

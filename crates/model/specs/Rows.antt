@@ -27,6 +27,8 @@ module _ (r : Record) (w : List ℕ) where
   abbrev pub legalPairs : List ℕ → ℕ → Bool
   legalPairs ws k = every (λ i. not (neither w (hAt ws i) (lAt ws i))) 0 k
 
+  -- Each of the following is true where its row does not refuse.
+
   -- "n or w outside its range"
   unfoldable pub row1 : Bool
   row1 = leb 1 (r .n) && leb (r .n) 8 && leb 1 (r .w) && leb (r .w) 16
