@@ -9,6 +9,7 @@ pub mod AgainLaws
 pub mod TableLaws
 pub mod ContractLaws
 pub mod AnyLaws
+pub mod FullLaws
 pub mod UserLaws
 pub mod Promises
 pub mod ShowLaws

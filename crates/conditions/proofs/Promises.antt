@@ -1,6 +1,7 @@
 -- What the conditions promise to the crates above, which cite these laws and no others. The terms are those of `Meaning`:
 -- `Stands u m w s n`: node n is below the count, on a variable from u up, and stands for m unless the store is full;
--- `Builds w s P x`: the step from w and s to x leaves standard form, extends the store, leaves a full store as it is, and P holds of its answer.
+-- `Builds w s P x`: the step from w and s to x leaves standard form, extends the store, leaves a full store as it is, and P holds of its answer;
+-- `Fills m`: the program m leaves a store within its capacity, and makes it full there alone.
 
 -- the store grows: older nodes stay
 pub use Rattle.nodes.proofs.ExtendsLaws.{extends-refl, extends-trans, agree-var}
@@ -17,6 +18,8 @@ pub use Rattle.conditions.proofs.MakeLaws.{variable-builds}
 pub use Rattle.conditions.proofs.AnyLaws.{any-builds, some-same}
 pub use Rattle.conditions.proofs.AssignmentLaws.{change-same, change-other, some-has, some-all}
 pub use Rattle.conditions.proofs.ValueLaws.{value-0, value-1}
+-- a store becomes full at its capacity alone
+pub use Rattle.conditions.proofs.FullLaws.{standard-within, pure-fills, next-fills, each-fills, variable-fills, ite-fills, any-fills}
 -- row 5, and node 1
 pub use Rattle.conditions.proofs.UserLaws.{user-is, is-user, user-stands, stands-user, stands-turns, stands-always, always-stands}
 -- a building function after another, and the table to begin with

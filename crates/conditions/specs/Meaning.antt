@@ -3,11 +3,11 @@ use mathlib.Core.Path.{_≡_}
 use mathlib.Core.Bool.{Bool, true, false}
 use mathlib.Core.List.{List}
 use Prim.Native.Nat.{ℕ, _<_, _≤_}
-use Rattle.nodes.specs.Words.{varAt}
+use Rattle.nodes.specs.Words.{varAt, capacityOf}
 use Rattle.nodes.specs.Standard.{Standard}
 use Rattle.nodes.specs.Extends.{Extends}
 use Rattle.conditions.specs.declared.Store.{Store}
-use Rattle.conditions.specs.Build.{Outcome}
+use Rattle.conditions.specs.Build.{Outcome, Build}
 use Rattle.conditions.specs.Value.{value}
 
 -- a meaning: a function of the assignment
@@ -26,3 +26,13 @@ pub record Builds {A : Type 0} (w : List ℕ) (s : Store) (P : List ℕ → Stor
   pub extends : Extends w (s .count) (x .words) (x .store .count)
   pub stuck : s .full ≡ true → (x .words ≡ w) × (x .store ≡ s)
   pub post : P (x .words) (x .store) (x .answer)
+
+-- a store of capacity c: its count is within it, and where it is full, at it
+pub record Within (c : ℕ) (w : List ℕ) (s : Store) : Type 0 where
+  pub capacity : capacityOf w ≡ c
+  pub most : s .count ≤ c
+  pub at-capacity : s .full ≡ true → s .count ≡ c
+
+-- a program that leaves a store so: it becomes full at capacity alone
+pub record Fills {A : Type 0} (m : Build A) : Type 0 where
+  pub within : (c : ℕ) (w : List ℕ) (s : Store) → Within c w s → Within c (m w s .words) (m w s .store)
