@@ -47,10 +47,10 @@ row-number p (t ∷ ts) q k e = let z = and-both (p (t .0) || t .1) (among p ts)
     go false n e h f = ap p (sym e) ∙ sym (or-false (p n)) ∙ h
 
 -- a row's number is at most 9, and its refusal does not clear
-abbrev plain : Call → ℕ → Bool
+abbrev pub plain : Call → ℕ → Bool
 plain c k = leb k 9 && not (clears c k)
 
-rows-plain : (c : Call) (s : State) (k : ℕ) → refusal c s ≡ suc k → plain c (suc k) ≡ true
+pub rows-plain : (c : Call) (s : State) (k : ℕ) → refusal c s ≡ suc k → plain c (suc k) ≡ true
 rows-plain (write c a d) s = row-number (plain (write c a d)) (writeRows (s .rec) (s .words) (s .list) c a d) refl
 rows-plain (read e a out) s = row-number (plain (read e a out)) (readRows (s .rec) (s .words) (s .list) e a out) refl
 rows-plain (assert b a d) s = row-number (plain (assert b a d)) (assertRows (s .rec) (s .words) (s .list) b a d) refl

@@ -16,3 +16,4 @@ pub mod FrameLaws
 pub mod Demand3
 pub mod RulingLaws
 pub mod StayLaws
+pub mod NineLaws

@@ -1,10 +1,11 @@
 -- 01, 'Turned down': what a refusal and a success leave, and that a valid state stays valid. And the count of entries.
 use mathlib.Core.Path.{_≡_}
-use mathlib.Core.Bool.{Bool, true, false, not, _&&_, _||_}
+use mathlib.Core.Bool.{Bool, true, false, cond, not, _&&_, _||_}
 use mathlib.Core.List.{List, [], _∷_}
 use Prim.Native.Nat.{ℕ, zero, suc, _+_, _*_, _<_, _≤_}
 use lib.Dec.{eqb}
 use lib.ListN.{length, getD}
+use Rattle.nodes.specs.Words.{capacityOf}
 use Rattle.nodes.specs.Extends.{Extends}
 use Rattle.conditions.specs.declared.Store.{Store}
 use Rattle.conditions.specs.Build.{Outcome}
@@ -41,24 +42,53 @@ RefusalLeaves = (c : Call) (s : State) (k : ℕ) → step c s .answer ≡ refuse
 unfoldable pub RefusalNumber : Type 0
 RefusalNumber = (c : Call) (s : State) (k : ℕ) → step c s .answer ≡ refused k → (1 ≤ k) × (k ≤ 9)
 
--- "Make needs a node past capacity": whether the program of a call does, an assert's Write with it
+-- "if Or(Not b, And(A,C)) is 1 the assert is kept, else entered": whether an assert, after what it builds first, needs its entry
+abbrev pub needsEntry : Outcome Asserted → Bool
+needsEntry x = not (x .store .full) && not (eqb (x .answer .keep) 1)
+
+abbrev pub asserting : ℕ → List ℕ → List ℕ → State → Outcome Asserted
+asserting b a d s = Assert (s .rec) (s .list) b a d (s .words) (begin (s .rec))
+
+-- the store as the program of a call leaves it, an assert's Write with it where the entry is needed and has space
+abbrev pub built : Call → State → Store
+built (write c a d) s = Write (s .rec .n) (getD c 0 0) (getD c 1 0) a (s .words) (begin (s .rec)) .store
+built (read e a out) s = Read (s .rec) (s .list) (getD e 0 0) (getD e 1 0) a (s .words) (begin (s .rec)) .store
+built (assert b a d) s =
+    let x = asserting b a d s in
+    cond (needsEntry x && row8 (s .rec) (s .words) (s .list)) (Write (s .rec .n) b (x .answer .unless) a (x .words) (record { count = x .store .count; full = false }) .store) (x .store)
+built (check b a d) s = Check (s .rec) (s .list) b a d (s .words) (begin (s .rec)) .store
+built (evaluate f a) s = begin (s .rec)
+built (variable v) s = Variable v (s .words) (begin (s .rec)) .store
+built (ite f g h) s = Ite f g h (s .words) (begin (s .rec)) .store
+
+-- "Make needs a node past capacity"
 abbrev pub overflows : Call → State → Bool
-overflows (write c a d) s = Write (s .rec .n) (getD c 0 0) (getD c 1 0) a (s .words) (begin (s .rec)) .store .full
-overflows (read e a out) s = Read (s .rec) (s .list) (getD e 0 0) (getD e 1 0) a (s .words) (begin (s .rec)) .store .full
-overflows (assert b a d) s =
-    let x = Assert (s .rec) (s .list) b a d (s .words) (begin (s .rec)) in
-    x .store .full || Write (s .rec .n) b (x .answer .unless) a (x .words) (record { count = x .store .count; full = false }) .store .full
-overflows (check b a d) s = Check (s .rec) (s .list) b a d (s .words) (begin (s .rec)) .store .full
-overflows (evaluate f a) s = false
-overflows (variable v) s = Variable v (s .words) (begin (s .rec)) .store .full
-overflows (ite f g h) s = Ite f g h (s .words) (begin (s .rec)) .store .full
+overflows c s = built c s .full
+
+-- "in an assert 8 is met when the entry is needed"
+abbrev pub lacksSpace : Call → State → Bool
+lacksSpace (write c a d) s = false
+lacksSpace (read e a out) s = false
+lacksSpace (assert b a d) s = needsEntry (asserting b a d s) && not (row8 (s .rec) (s .words) (s .list))
+lacksSpace (check b a d) s = false
+lacksSpace (evaluate f a) s = false
+lacksSpace (variable v) s = false
+lacksSpace (ite f g h) s = false
 
 -- a call is refused by the first row that it meets; where it meets none, by 9 where its program overflows, and in an assert by 8 where there is no space: by nothing else
 abbrev pub late : Call → State → ℕ → Bool
-late c s k = eqb k 9 && overflows c s || eqb k 8 && isAssert c && not (row8 (s .rec) (s .words) (s .list))
+late c s k = lacksSpace c s && eqb k 8 || overflows c s && eqb k 9
 
 unfoldable pub RefusedByRow : Type 0
 RefusedByRow = (c : Call) (s : State) (k : ℕ) → step c s .answer ≡ refused k → (eqb (refusal c s) k || eqb (refusal c s) 0 && late c s k) ≡ true
+
+-- and there it is refused
+unfoldable pub RowRefuses : Type 0
+RowRefuses = (c : Call) (s : State) → ((k : ℕ) → refusal c s ≡ suc k → step c s .answer ≡ refused (suc k)) × ((k : ℕ) → refusal c s ≡ 0 → late c s k ≡ true → step c s .answer ≡ refused k)
+
+-- 9 is met at capacity: of a call that it refuses, the program ends with as many nodes as the lent words hold
+unfoldable pub NineAtCapacity : Type 0
+NineAtCapacity = (c : Call) (s : State) → step c s .answer ≡ refused 9 → built c s .count ≡ capacityOf (s .words)
 
 -- the assert condition is an assert's alone to change, the check condition a check's
 abbrev pub isCheck : Call → Bool
