@@ -24,7 +24,7 @@ pub record Exact (w : ℕ) (es : List Entry) (I : Type 0) (arr : I → Array) : 
 length-anything : (w : ℕ) (v : List Bool) → T (admits (anything w) v) → length v ≡ w
 length-anything w v t = admits-length (anything w) v t ∙ length-replicate w X
 
-X-admits : (b : Bool) → T (admit X b)
+pub X-admits : (b : Bool) → T (admit X b)
 X-admits true = tt
 X-admits false = tt
 
@@ -232,10 +232,6 @@ forced true true t = refl
 forced false false t = refl
 forced true false t = absurd t
 forced false true t = absurd t
-
-legal-control : (b : Bool) → T (b || not b)
-legal-control true = tt
-legal-control false = tt
 
 pub step : (n w : ℕ) (s : Held) (I : Type 0) (arr : I → Array) → Exact w (s .entries) I arr → (k : Bool) (e : Event) → Accepted n w s k e →
     Exact w ((after n w s k e) .entries) (I × Choice w e) (λ r. next w e (r .1) (arr (r .0)))

@@ -1,5 +1,5 @@
 -- Entries in the list's words: which words an entry has, and what an appended entry leaves and adds.
-use mathlib.Core.Path.{_≡_, sym, ap, _∙_}
+use mathlib.Core.Path.{_≡_, sym, _∙_}
 use mathlib.Core.List.{List, _∷_, _++_, append-assoc}
 use Prim.Native.Nat.{ℕ, _+_, _*_, _-_, _≤_, _<_}
 use native.Mathlib.Nat.{suc-mul, le-div-iff-mul-le, mul-le-mul-right}
@@ -35,12 +35,6 @@ part-word l a e k h = getD-take (e - a) (drop a l) k 0 h ∙ getD-drop a l k 0
 module _ (r : Record) (l : List ℕ) (j : ℕ) where
   pub entry-word : (k : ℕ) → k < size r → getD (entryAt r l j) k 0 ≡ getD l (j * size r + k) 0
   entry-word k h = part-word l (j * size r) (j * size r + size r) k (omega arith)
-
-  pub entry-hard : getD (entryAt r l j) 0 0 ≡ getD l (j * size r) 0
-  entry-hard = entry-word 0 (omega arith) ∙ ap (λ (k : ℕ). getD l k 0) (omega arith)
-
-  pub entry-soft : getD (entryAt r l j) 1 0 ≡ getD l (j * size r + 1) 0
-  entry-soft = entry-word 1 (omega arith)
 
   pub entry-address : (k : ℕ) → k < 2 * r .n → getD (addressOf r (entryAt r l j)) k 0 ≡ getD l (j * size r + (2 + k)) 0
   entry-address k h = part-word (entryAt r l j) 2 (2 + 2 * r .n) k (omega arith) ∙ entry-word (2 + k) (omega arith)

@@ -115,10 +115,6 @@ anything-word zero b = tt
 anything-word (suc w) true = anything-word w true
 anything-word (suc w) false = anything-word w false
 
-pub anything-legal : (w : ℕ) → T (legals (anything w))
-anything-legal zero = tt
-anything-legal (suc w) = anything-legal w
-
 -- an address with no X admits one place
 pub one-place : (a : List Pair) → T (unique a) → (x y : List Bool) → T (admits a x) → T (admits a y) → T (same x y)
 one-place [] u [] [] s t = tt

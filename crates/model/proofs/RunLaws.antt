@@ -12,7 +12,7 @@ use Rattle.model.specs.Published.{Entry, cell, look, certain, answer, in
 use Rattle.model.proofs.Held.{Held, none, later, after, final, Accepted, AllAccepted, May}
 use Rattle.model.specs.Array.{Event, writes, reads, asserts, checks, nothing, Array, Bit, Bits, Choice, Choices, next, outcome, outcomesFrom, Returns, Allowed, Start, Run}
 use Rattle.model.proofs.PairLaws.{and-left, and-right, and-both, admits-at, admits-all, chooses, anything-word, look-to, look-from, inside-to, inside-from}
-use Rattle.model.proofs.ExactLaws.{Exact, start, step, some-choice}
+use Rattle.model.proofs.ExactLaws.{Exact, X-admits, start, step, some-choice}
 
 -- any array can go on through accepted calls
 some-choices : (n w : ℕ) (s : Held) (ks : ℕ → Bool) (es : List Event) → AllAccepted n w s ks es → Choices w es
@@ -39,14 +39,10 @@ module _ (n w : ℕ) (es : List Entry) (I : Type 0) (arr : I → Array) (E : Exa
   read-from : (r : I × Choice w (reads e a)) → bit (cond (r .1 .0 .0) (arr (r .0) (r .1 .1 .0)) (r .1 .2 .0)) i ≡ b → T (admit (answer n es e a i) b)
   read-from r p = go (e .h) (e .l) (r .1 .0 .0) (r .1 .0 .1) p
     where
-      all : (b : Bool) → T (admit X b)
-      all true = tt
-      all false = tt
-
       go : (eh el en : Bool) → T (admit (record { h = eh; l = el }) en) → bit (cond en (arr (r .0) (r .1 .1 .0)) (r .1 .2 .0)) i ≡ b →
           T (admit (cond (eh && not el) (look n es a i) X) b)
-      go false el en t p = all b
-      go true true en t p = all b
+      go false el en t p = X-admits b
+      go true true en t p = X-admits b
       go true false false t p = absurd t
       go true false true t p =
           look-from n es a na (r .1 .1) i b
