@@ -1,3 +1,4 @@
+pub mod ExampleLaws
 pub mod WordLaws
 pub mod StepLaws
 pub mod RestLaws

@@ -1,0 +1,22 @@
+-- Which of an access's numbers its call takes as control, address and data: one access of each kind, for n = 1 and w = 2.
+use mathlib.Core.Path.{_≡_, refl}
+use mathlib.Core.List.{[], _∷_}
+use Rattle.model.specs.Step.{write, read, assert, check}
+use Rattle.reading.specs.declared.Kind.the-variants as kind
+use Rattle.casefile.specs.Case.{callOf}
+
+write-nodes : callOf kind.Write 1 2 (11 ∷ 12 ∷ 21 ∷ 22 ∷ 31 ∷ 32 ∷ 33 ∷ 34 ∷ []) ≡ write (11 ∷ 12 ∷ []) (21 ∷ 22 ∷ []) (31 ∷ 32 ∷ 33 ∷ 34 ∷ [])
+unfolding callOf
+write-nodes = refl
+
+read-nodes : callOf kind.Read 1 2 (11 ∷ 12 ∷ 21 ∷ 22 ∷ []) ≡ read (11 ∷ 12 ∷ []) (21 ∷ 22 ∷ []) (0 ∷ 0 ∷ 0 ∷ 0 ∷ [])
+unfolding callOf
+read-nodes = refl
+
+assert-nodes : callOf kind.Assert 1 2 (11 ∷ 21 ∷ 22 ∷ 31 ∷ 32 ∷ 33 ∷ 34 ∷ []) ≡ assert 11 (21 ∷ 22 ∷ []) (31 ∷ 32 ∷ 33 ∷ 34 ∷ [])
+unfolding callOf
+assert-nodes = refl
+
+check-nodes : callOf kind.Check 1 2 (11 ∷ 21 ∷ 22 ∷ 31 ∷ 32 ∷ 33 ∷ 34 ∷ []) ≡ check 11 (21 ∷ 22 ∷ []) (31 ∷ 32 ∷ 33 ∷ 34 ∷ [])
+unfolding callOf
+check-nodes = refl
