@@ -61,7 +61,7 @@ printed-goes s at o c e = go (o .text .full) refl e
     go false q e = (q, cc)
 
 -- the call at a running case's place
-abbrev callHere : List ℕ → Running → Call
+abbrev pub callHere : List ℕ → Running → Call
 callHere file c = callAt file (c .state .rec .n) (c .state .rec .w) (c .at)
 
 record Goes (file : List ℕ) (c d : Running) : Type 0 where
@@ -122,7 +122,7 @@ last-ended file k c s o h e = go (ltb (c .at) (length file)) refl
         record { ends = omega arith; accepted = tt; state = F .0; text = F .1; free = ap (λ (x : Out). x .text .full) (F .1) ∙ F .2 }
 
 -- n and w stay
-same-sizes : (x : Call) (s : State) → isRefused (step x s .answer) ≡ false → (step x s .after .rec .n ≡ s .rec .n) × (step x s .after .rec .w ≡ s .rec .w)
+pub same-sizes : (x : Call) (s : State) → isRefused (step x s .answer) ≡ false → (step x s .after .rec .n ≡ s .rec .n) × (step x s .after .rec .w ≡ s .rec .w)
 unfolding SuccessLeaves
 same-sizes x s e = let E = success-leaves x s e in (E .n, E .w)
 
@@ -155,7 +155,7 @@ rest-ended file (suc m) k c s o h e = go (λ d. rest-ended file m (suc k) d s o)
     go again (stops r) q e = let z : _≡_ {A = ℕ} 0 1 = cc in absurd (omega arith)
 
 -- the case with which the accesses of a file begin
-abbrev start : List ℕ → List ℕ → List ℕ → List ℕ → Running
+abbrev pub start : List ℕ → List ℕ → List ℕ → List ℕ → Running
 start file words list text = record { state = stateIn file words list; at = firstAt file; text = growing text 0 }
 
 record Began (file words list text : List ℕ) (s : State) (o : Out) : Type 0 where
@@ -164,7 +164,7 @@ record Began (file words list text : List ℕ) (s : State) (o : Out) : Type 0 wh
   is : rest file (accessesIn file) 0 (start file words list text) ≡ ended s o
 
 -- sections that are read
-begun : (file words list text : List ℕ) {n w count m at : ℕ} → sections file words .1 ≡ ready n w count m at
+pub begun : (file words list text : List ℕ) {n w count m at : ℕ} → sections file words .1 ≡ ready n w count m at
     → rest file m 0 (record { state = record { rec = firstRecord n w count; words = sections file words .0; list = list }; at = at; text = growing text 0 }) ≡ rest file (accessesIn file) 0 (start file words list text)
 begun file words list text {n} {w} {count} {m} {at} q =
     let ws = sections file words .0 in
@@ -206,7 +206,7 @@ case-ends file words list text k r e = go (whole file words list text) refl e
     go (ended s o) q e = record { state = s; text-end = o; is = q; size = cc; rec = cc }
     go (stopped a b) q e = let z : _≡_ {A = ℕ} 0 1 = cc in absurd (omega arith)
 
-case-left : (file words list text : List ℕ) {s : State} {o : Out} → whole file words list text ≡ ended s o → caseOf file words list text ≡ closed words list text (ended s o)
+pub case-left : (file words list text : List ℕ) {s : State} {o : Out} → whole file words list text ≡ ended s o → caseOf file words list text ≡ closed words list text (ended s o)
 unfolding caseOf
 case-left file words list text q = ap (closed words list text) q
 

@@ -4,3 +4,4 @@ pub mod StepLaws
 pub mod RestLaws
 pub mod ZeroLaws
 pub mod CaseLaws
+pub mod AcceptedLaws

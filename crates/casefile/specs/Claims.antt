@@ -1,4 +1,4 @@
--- What is claimed of every accepted case: its text, and demand 3.
+-- What is claimed of every case: when it is accepted; of an accepted one, its text and demand 3; of a refused one, its number and K.
 use mathlib.Core.Path.{_≡_}
 use mathlib.Core.Logic.{_↔_}
 use mathlib.Core.Bool.{Bool, false}
@@ -15,8 +15,8 @@ use Rattle.model.specs.Array.{Run, outcomes, Allowed}
 use Rattle.model.specs.Claims.{events, Exactly}
 use Rattle.reading.specs.Bytes.{numberAt, numbersAt}
 use Rattle.reading.specs.Kinds.{sizeOf}
-use Rattle.reading.specs.Accesses.{kindAt, endOf}
-use Rattle.reading.specs.Sections.{nodesIn, recordIn, stored}
+use Rattle.reading.specs.Accesses.{found, kindAt, endOf, accessAt}
+use Rattle.reading.specs.Sections.{nodesIn, recordIn, stored, ready, sections}
 use Rattle.casefile.specs.Case.{callOf, lineOf, accepts, refuses, Case, zeroed, caseOf}
 
 -- the call whose kind byte stands at a place, for n and w
@@ -72,6 +72,32 @@ pub record Printed (file words list text : List ℕ) (k : ℕ) (r : Record) (c :
 
 unfoldable pub CaseText : Type 0
 CaseText = (file words list text : List ℕ) (k : ℕ) (r : Record) → caseOf file words list text .answer ≡ accepts k r → Printed file words list text k r (caseOf file words list text)
+
+-- the sections of a file are read
+abbrev pub SectionsReady : List ℕ → List ℕ → Type 0
+SectionsReady file words = sections file words .1 ≡ ready (getD file 0 0) (getD file 1 0) (nodesIn file + 2) (accessesIn file) (firstAt file)
+
+-- an access stands at this place, for n and w
+abbrev pub Stands : List ℕ → ℕ → ℕ → ℕ → Type 0
+Stands file n w at = accessAt file at n w ≡ found (kindAt file at) (at + 1) (endOf file at n w)
+
+-- m accesses stand there, each from the byte after the one before it
+abbrev pub AllStand : List ℕ → ℕ → ℕ → ℕ → ℕ → Type 0
+AllStand file n w at zero = Unit {0}
+AllStand file n w at (suc m) = Stands file n w at × AllStand file n w (endOf file at n w) m
+
+-- a case with nothing to refuse: its sections are read; its accesses stand there, and their calls are accepted; the file ends with the last; and the text buffer takes the lines
+pub record Acceptable (file words list text : List ℕ) : Type 0 where
+  pub read : SectionsReady file words
+  pub stand : AllStand file (getD file 0 0) (getD file 1 0) (firstAt file) (accessesIn file)
+  pub accepted : AllAccepted (callsIn file) (stateIn file words list)
+  pub ends : endFrom file (getD file 0 0) (getD file 1 0) (firstAt file) (accessesIn file) ≡ length file
+  pub fits : length (linesOf (callsIn file) (stateIn file words list)) ≤ length text
+
+-- it is accepted
+unfoldable pub CaseAccepted : Type 0
+CaseAccepted = (file words list text : List ℕ) → Acceptable file words list text
+    → caseOf file words list text .answer ≡ accepts (length (linesOf (callsIn file) (stateIn file words list))) (run (callsIn file) (stateIn file words list) .rec)
 
 -- a case that refused by a number after K: it "zeroes node store, list and text buffer", and K are "the accesses already printed": the first K calls of the file are accepted
 pub record RefusedAfter (file words list text : List ℕ) (after : ℕ) (c : Case) : Type 0 where
