@@ -33,7 +33,7 @@ fitted xs o e = go (o .text .full) refl
     go false q = refl
 
 -- an access that stands there, is accepted, and whose line fits
-one-done : (file : List ℕ) (c : Running) → Stands file (c .state .rec .n) (c .state .rec .w) (c .at) → isRefused (step (callHere file c) (c .state) .answer) ≡ false → afterOne file c .text .text .full ≡ false
+pub one-done : (file : List ℕ) (c : Running) → Stands file (c .state .rec .n) (c .state .rec .w) (c .at) → isRefused (step (callHere file c) (c .state) .answer) ≡ false → afterOne file c .text .text .full ≡ false
     → one file c ≡ goes (afterOne file c)
 unfolding one done
 one-done file c e a f =

@@ -6,7 +6,7 @@ use Prim.Native.Nat.{ℕ, zero, suc, _+_, _*_, _≤_}
 use native.Mathlib.Nat.{zero-add}
 use native.Mathlib.Omega.{arith}
 use lib.Dec.{T, ltb}
-use lib.ListN.{length, getD, drop}
+use lib.ListN.{length, drop}
 use borrow.Author.Tests.{ltb-true, ltb-false}
 use Rattle.text.specs.Text.{Out, growing, appended}
 use Rattle.text.proofs.TextLaws.{appended-append, appended-fits, appended-is-full}
@@ -34,8 +34,8 @@ use Rattle.memory.specs.Contract.{recordOf}
 use Rattle.casefile.specs.declared.CaseAnswer.{CaseAnswer}
 use Rattle.casefile.specs.declared.CaseAnswer.the-variants as answer
 use Rattle.casefile.specs.Contract.{answered, caseAs}
-use Rattle.casefile.specs.Case.{callOf, lineOf, Running, Next, goes, stops, printed, said, done, doneAs, one, Ended, ended, stopped, lastPrinted, last, after, rest, afterSections, whole, accepts, Case, closed, caseOf, refuses}
-use Rattle.casefile.specs.Claims.{callAt, callsFrom, endFrom, accessesIn, firstAt, callsIn, stateIn, AllAccepted, linesOf, CaseText, CaseExactly, RefusedAfter, CaseRefused}
+use Rattle.casefile.specs.Case.{callOf, lineOf, Running, Next, goes, stops, printed, said, done, doneAs, one, Ended, ended, stopped, last, after, rest, afterSections, whole, accepts, Case, closed, caseOf}
+use Rattle.casefile.specs.Claims.{callAt, callsFrom, endFrom, accessesIn, firstAt, callsIn, stateIn, AllAccepted, linesOf, CaseText, CaseExactly}
 use Rattle.casefile.proofs.RestLaws.{last-left, last-printed}
 
 -- an access that goes on was accepted, and its line fitted
@@ -256,82 +256,3 @@ case-exactly file words list text k r e a small =
 pub done-fits : (file words list text : List ℕ) (w l b : List ℕ) {r : CaseAnswer} {k : ℕ} {m : memory.Record} → r ≡ answer.Done k m → caseAs r w l b ≡ caseOf file words list text → k ≤ length text
 unfolding CaseText
 done-fits file words list text w l b {k = k} {m = m} e f = case-text file words list text k (recordOf m) (sym (ap (λ (x : Case). x .answer) f) ∙ ap answered e) .fits
-
--- where the case is refused after k, those before it were accepted
-record Stops (file : List ℕ) (m i : ℕ) (c : Running) (k : ℕ) : Type 0 where
-  count : ℕ
-  is : k ≡ i + count
-  few : count ≤ m
-  accepted : AllAccepted (callsFrom file (c .state .rec .n) (c .state .rec .w) (c .at) count) (c .state)
-
--- none of them
-stops-none : (file : List ℕ) (m i : ℕ) (c : Running) (k : ℕ) → k ≡ i → Stops file m i c k
-unfolding callsFrom
-stops-none file m i c k e = record { count = 0; is = omega arith; few = omega arith; accepted = tt }
-
-last-stopped : (file : List ℕ) (i : ℕ) (c : Running) (r k : ℕ) → last file i c ≡ stopped r k → k ≡ i
-last-stopped file i c r k e = go (ltb (c .at) (length file)) refl
-  where
-    end : Out
-    end = appended (endLine (c .state .rec .entries)) (c .text)
-
-    full : (f : Bool) → cond f (stopped 13 i) (ended (c .state) end) ≡ stopped r k → k ≡ i
-    full true e = cc
-    full false e = let z : _≡_ {A = ℕ} 0 1 = cc in absurd (omega arith)
-
-    go : (f : Bool) → ltb (c .at) (length file) ≡ f → k ≡ i
-    go true q = let u : stopped 12 i ≡ stopped r k = sym (last-left file i c (ltb-true (c .at) (length file) q)) ∙ e in cc
-    go false q = full (end .text .full) (sym (last-printed file i c (ltb-false (c .at) (length file) q)) ∙ e)
-
-rest-stopped : (file : List ℕ) (m i : ℕ) (c : Running) (r k : ℕ) → rest file m i c ≡ stopped r k → Stops file m i c k
-unfolding rest callsFrom
-rest-stopped file zero i c r k e = stops-none file 0 i c k (last-stopped file i c r k e)
-rest-stopped file (suc m) i c r k e = go (λ d. rest-stopped file m (suc i) d r k) (one file c) refl e
-  where
-    go : ((d : Running) → rest file m (suc i) d ≡ stopped r k → Stops file m (suc i) d k) → (x : Next) → one file c ≡ x → after x i (rest file m (suc i)) ≡ stopped r k → Stops file (suc m) i c k
-    go again (goes d) q e =
-        let n = c .state .rec .n in
-        let w = c .state .rec .w in
-        let G = one-goes file c d q in
-        let t = step (callHere file c) (c .state) .after in
-        let at′ = endOf file (c .at) n w in
-        let there : Running = record { state = t; at = at′; text = appended (lineOf (step (callHere file c) (c .state) .answer) t) (c .text) } in
-        let S : Stops file m (suc i) there k = subst (λ (x : Running). Stops file m (suc i) x k) (G .is) (again d e) in
-        let Z = same-sizes (callHere file c) (c .state) (G .accepted) in
-        let j = S .count in
-        let same : callsFrom file (t .rec .n) (t .rec .w) at′ j ≡ callsFrom file n w at′ j = ap (λ (x : ℕ). callsFrom file x (t .rec .w) at′ j) (Z .0) ∙ ap (λ (x : ℕ). callsFrom file n x at′ j) (Z .1) in
-        record {
-          count = suc j;
-          is = omega (arith, S .is);
-          few = omega (arith, S .few);
-          accepted = (G .accepted, subst (λ (x : List Call). AllAccepted x t) same (S .accepted));
-        }
-    go again (stops a) q e = let u : k ≡ i = cc in stops-none file (suc m) i c k u
-
--- in the sections none was done
-whole-stopped : (file words list text : List ℕ) (r k : ℕ) → whole file words list text ≡ stopped r k → Stops file (accessesIn file) 0 (start file words list text) k
-unfolding whole
-whole-stopped file words list text r k e = go (sections file words .1) refl e
-  where
-    go : (x : Sections) → sections file words .1 ≡ x → afterSections file (sections file words .0) x list text ≡ stopped r k → Stops file (accessesIn file) 0 (start file words list text) k
-    go (ready n w count m at) q e = rest-stopped file (accessesIn file) 0 (start file words list text) r k (sym (begun file words list text q) ∙ e)
-    go (sections.refused a) q e = let u : k ≡ 0 = cc in stops-none file (accessesIn file) 0 (start file words list text) k u
-
-pub case-refused-after : CaseRefused
-unfolding CaseRefused caseOf
-case-refused-after file words list text number k e = go (whole file words list text) refl e
-  where
-    go : (x : Ended) → whole file words list text ≡ x → closed words list text x .answer ≡ refuses number k → RefusedAfter file words list text k (closed words list text (whole file words list text))
-    go (ended s o) q e = let z : _≡_ {A = ℕ} 0 1 = cc in absurd (omega arith)
-    go (stopped a b) q e =
-        let u : k ≡ b = cc in
-        let S = whole-stopped file words list text a b q in
-        let v : S .count ≡ k = omega (arith, S .is) in
-        rw q
-        (record {
-          nodes = refl;
-          entries = refl;
-          bytes = refl;
-          few = omega (arith, S .few, v);
-          accepted = subst (λ (i : ℕ). AllAccepted (callsFrom file (getD file 0 0) (getD file 1 0) (firstAt file) i) (stateIn file words list)) v (S .accepted);
-        })

@@ -5,3 +5,4 @@ pub mod RestLaws
 pub mod ZeroLaws
 pub mod CaseLaws
 pub mod AcceptedLaws
+pub mod RefusedLaws

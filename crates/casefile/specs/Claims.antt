@@ -1,6 +1,6 @@
 -- What is claimed of every case: when it is accepted; of an accepted one, its text and demand 3; of a refused one, its number and K.
 use mathlib.Core.Path.{_≡_}
-use mathlib.Core.Logic.{_↔_}
+use mathlib.Core.Logic.{_↔_, _⊎_}
 use mathlib.Core.Bool.{Bool, false}
 use mathlib.Core.List.{List, [], _∷_, _++_}
 use Prim.Native.Nat.{ℕ, zero, suc, _+_, _*_, _^_, _<_, _≤_}
@@ -10,13 +10,15 @@ use Rattle.conditions.specs.Value.{value}
 use Rattle.conditions.specs.Assignment.{bitAt}
 use Rattle.lines.specs.Lines.{endLine}
 use Rattle.model.specs.Record.{Record}
-use Rattle.model.specs.Step.{State, Call, isRefused, step, run}
+use Rattle.model.specs.Step.{State, Call, Answer, refused, isRefused, step, run}
 use Rattle.model.specs.Array.{Run, outcomes, Allowed}
 use Rattle.model.specs.Claims.{events, Exactly}
 use Rattle.reading.specs.Bytes.{numberAt, numbersAt}
 use Rattle.reading.specs.Kinds.{sizeOf}
 use Rattle.reading.specs.Accesses.{found, kindAt, endOf, accessAt}
+use Rattle.reading.specs.Accesses as accesses
 use Rattle.reading.specs.Sections.{nodesIn, recordIn, stored, ready, sections}
+use Rattle.reading.specs.Sections as sections
 use Rattle.casefile.specs.Case.{callOf, lineOf, accepts, refuses, Case, zeroed, caseOf}
 
 -- the call whose kind byte stands at a place, for n and w
@@ -99,16 +101,46 @@ unfoldable pub CaseAccepted : Type 0
 CaseAccepted = (file words list text : List ℕ) → Acceptable file words list text
     → caseOf file words list text .answer ≡ accepts (length (linesOf (callsIn file) (stateIn file words list))) (run (callsIn file) (stateIn file words list) .rec)
 
--- a case that refused by a number after K: it "zeroes node store, list and text buffer", and K are "the accesses already printed": the first K calls of the file are accepted
-pub record RefusedAfter (file words list text : List ℕ) (after : ℕ) (c : Case) : Type 0 where
+-- the first k calls of a file, and the byte after them
+abbrev pub firstCalls : List ℕ → ℕ → List Call
+firstCalls file k = callsFrom file (getD file 0 0) (getD file 1 0) (firstAt file) k
+
+abbrev pub byteAfter : List ℕ → ℕ → ℕ
+byteAfter file k = endFrom file (getD file 0 0) (getD file 1 0) (firstAt file) k
+
+-- what the access after them answers
+abbrev pub answerAfter : List ℕ → List ℕ → List ℕ → ℕ → Answer
+answerAfter file words list k = step (callAt file (getD file 0 0) (getD file 1 0) (byteAfter file k)) (run (firstCalls file k) (stateIn file words list)) .answer
+
+-- the lines of calls one after the other
+abbrev pub accessLines : List Call → State → List ℕ
+accessLines [] s = []
+accessLines (c ∷ cs) s = lineOf (step c s .answer) (step c s .after) ++ accessLines cs (step c s .after)
+
+-- why a case whose sections are read is refused by a number after k accesses: the next is not there, or its call is refused, or its line does not fit; or all are printed, and bytes are
+-- left, or the last line does not fit
+pub data RefusedAt (file words list text : List ℕ) (number k : ℕ) : Type 0 where
+  missing : k < accessesIn file → accessAt file (byteAfter file k) (getD file 0 0) (getD file 1 0) ≡ accesses.refused number → RefusedAt file words list text number k
+  refusedCall : k < accessesIn file → Stands file (getD file 0 0) (getD file 1 0) (byteAfter file k) → answerAfter file words list k ≡ refused number → RefusedAt file words list text number k
+  lineOver : k < accessesIn file → Stands file (getD file 0 0) (getD file 1 0) (byteAfter file k) → isRefused (answerAfter file words list k) ≡ false
+      → length text < length (accessLines (firstCalls file (suc k)) (stateIn file words list)) → number ≡ 13 → RefusedAt file words list text number k
+  bytesLeft : k ≡ accessesIn file → byteAfter file k < length file → number ≡ 12 → RefusedAt file words list text number k
+  endOver : k ≡ accessesIn file → length file ≤ byteAfter file k → length text < length (linesOf (callsIn file) (stateIn file words list)) → number ≡ 13 → RefusedAt file words list text number k
+
+-- a case that refused by a number after K: it "zeroes node store, list and text buffer"; K are "the accesses already printed": they stand in the file, their calls are accepted, and
+-- their lines fit; and the number is that of the sections, K being 0, or of what comes after the K accesses
+pub record RefusedAfter (file words list text : List ℕ) (number after : ℕ) (c : Case) : Type 0 where
   pub nodes : c .words ≡ zeroed words
   pub entries : c .list ≡ zeroed list
   pub bytes : c .text ≡ zeroed text
   pub few : after ≤ accessesIn file
-  pub accepted : AllAccepted (callsFrom file (getD file 0 0) (getD file 1 0) (firstAt file) after) (stateIn file words list)
+  pub stand : AllStand file (getD file 0 0) (getD file 1 0) (firstAt file) after
+  pub accepted : AllAccepted (firstCalls file after) (stateIn file words list)
+  pub fits : length (accessLines (firstCalls file after) (stateIn file words list)) ≤ length text
+  pub reason : ((sections file words .1 ≡ sections.refused number) × (after ≡ 0)) ⊎ (SectionsReady file words × RefusedAt file words list text number after)
 
 unfoldable pub CaseRefused : Type 0
-CaseRefused = (file words list text : List ℕ) (number after : ℕ) → caseOf file words list text .answer ≡ refuses number after → RefusedAfter file words list text after (caseOf file words list text)
+CaseRefused = (file words list text : List ℕ) (number after : ℕ) → caseOf file words list text .answer ≡ refuses number after → RefusedAfter file words list text number after (caseOf file words list text)
 
 -- Demand 3 of such a case under one assignment: its reads, and the check condition of the record r that it answered in the node words that it left, are exactly what
 -- the plain runs of its accesses give
