@@ -1,4 +1,4 @@
-pub mod ExampleLaws
+pub mod CallLaws
 pub mod WordLaws
 pub mod StepLaws
 pub mod RestLaws

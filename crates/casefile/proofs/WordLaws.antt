@@ -1,12 +1,10 @@
 -- What is printed of a memory: nodes of its store.
 use mathlib.Core.Path.{_≡_, ap, subst}
 use mathlib.Core.List.{List}
-use Prim.Native.Nat.{ℕ, _+_, _<_, _≤_}
-use native.Mathlib.Omega.{arith}
-use lib.ListN.{length, getD, length-take, length-drop}
+use Prim.Native.Nat.{ℕ, _<_}
+use lib.ListN.{length, getD}
 use Rattle.nodes.specs.Standard.{Standard}
 use Rattle.conditions.proofs.Promises.{standard-is, user-is}
-use Rattle.model.specs.Record.{part}
 use Rattle.model.specs.Step.{State, Call, read, Answer, filled, Result, step}
 use Rattle.model.specs.Frames.{Valid, StaysValid}
 use Rattle.model.proofs.ThirdLaws.{third-is}
@@ -30,7 +28,3 @@ module _ (c : Call) {s t : State} {a : Answer} (K : Valid s) (e : step c s ≡ r
 
 pub word-below : (e a out : List ℕ) {r : List ℕ} {s t : State} → Valid s → step (read e a out) s ≡ record { answer = filled r; after = t } → Standard (t .words) (t .rec .count) × ((i : ℕ) → i < length r → getD r i 0 < t .rec .count)
 word-below e a out {s = s} K f = (after-standard (read e a out) K f, filled-below e a out s f .1)
-
--- k words of a slice
-pub part-size : (l : List ℕ) (a k : ℕ) → a + k ≤ length l → length (part l a (a + k)) ≡ k
-part-size l a k h = simp (length-take, length-drop) (omega arith)

@@ -1,4 +1,5 @@
-use Rattle.casefile.proofs.WordLaws.{part-size, checked-below}
+use Rattle.casefile.proofs.WordLaws.{checked-below}
+use Rattle.casefile.proofs.CallLaws.{part-size}
 use Rattle.casefile.proofs.StepLaws.{answers-as, step-on, step-stop}
 use Rattle.memory.specs.Contract.{checkAnswer}
 use Rattle.casefile.specs.Case.{callOf}

@@ -1,5 +1,5 @@
 use Rattle.casefile.proofs.StepLaws.{answers-as, step-on, step-stop}
-use Rattle.casefile.proofs.WordLaws.{part-size}
+use Rattle.casefile.proofs.CallLaws.{part-size}
 use Rattle.memory.specs.Contract.{writeAnswer}
 use Rattle.casefile.specs.Case.{callOf}
 use Rattle.text.specs.Text.{out}

@@ -1,4 +1,5 @@
-use Rattle.casefile.proofs.WordLaws.{part-size, word-below}
+use Rattle.casefile.proofs.WordLaws.{word-below}
+use Rattle.casefile.proofs.CallLaws.{part-size}
 use Rattle.casefile.proofs.StepLaws.{read-filled, read-refused, step-on, step-stop}
 use lib.ListN.{length-replicate}
 use Rattle.casefile.specs.Case.{callOf}
