@@ -29,9 +29,16 @@ pub struct Asserted {
 
 impl Record {
     // The row that refuses an assert to a valid memory, or 0.
-    fn assert_row(self, words: &[u32], list: &[u32], b: u32, address: &[u32], data: &[u32]) -> u32
+    fn assert_row(
+        self,
+        words: &[u32],
+        list: &[u32],
+        b: ControlNode,
+        address: &[u32],
+        data: &[u32],
+    ) -> u32
         requires { ⌜ Valid (stateOf self (now words) (now list)) × (length (now address) ≡ 2 * self .n) × (length (now «data») ≡ 2 * self .w) ⌝ }
-        ensures { λ r. ⌜ r ≡ firstRow (assertRows (recordOf self) (now (words .entry)) (now (list .entry)) b (now (address .entry)) (now («data» .entry))) ⌝ }
+        ensures { λ r. ⌜ r ≡ firstRow (assertRows (recordOf self) (now (words .entry)) (now (list .entry)) (b .0) (now (address .entry)) (now («data» .entry))) ⌝ }
     {
         let k = self.check_row(words, list, b, address, data);
         if k != 0 {
@@ -154,7 +161,7 @@ impl Record {
         requires { ⌜ Valid (stateOf self (now words) (now list)) × Sound (now words) (now table) (begin (recordOf self)) × (length (now address) ≡ 2 * self .n) × (length (now «data») ≡ 2 * self .w) ⌝ }
         ensures { λ r. ⌜ AnswersOn (assert (b .0) (now (address .entry)) (now («data» .entry))) (stateOf self (now (words .entry)) (now (list .entry))) (stateOf (r .after) (now (words .exit)) (now (list .exit))) (assertAnswer (r .answer)) (now (table .exit)) ⌝ }
     {
-        let k = self.assert_row(words, list, b.0, address, data);
+        let k = self.assert_row(words, list, b, address, data);
         if k != 0 {
             return AssertResult {
                 after: self,

@@ -65,7 +65,7 @@ impl Record {
         requires { ⌜ Valid (stateOf self (now words) (now list)) × Sound (now words) (now table) (begin (recordOf self)) × (length (now address) ≡ 2 * self .n) × (length (now «data») ≡ 2 * self .w) ⌝ }
         ensures { λ r. ⌜ AnswersOn (check (b .0) (now (address .entry)) (now («data» .entry))) (stateOf self (now (words .entry)) (now (list .entry))) (stateOf (r .after) (now (words .exit)) (now (list .entry))) (checkAnswer (r .answer)) (now (table .exit)) ⌝ }
     {
-        let k = self.check_row(words, list, b.0, address, data);
+        let k = self.check_row(words, list, b, address, data);
         if k != 0 {
             return CheckResult {
                 after: self,

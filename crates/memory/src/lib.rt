@@ -18,6 +18,7 @@ mod read;
 mod rows;
 mod write;
 
+use access::ControlNode;
 use access::Marks;
 use conditions::Store;
 
@@ -190,11 +191,18 @@ impl Record {
     }
 
     // The row that refuses a check of a valid memory, or 0; of an assert its rows up to 6.
-    fn check_row(self, words: &[u32], list: &[u32], b: u32, address: &[u32], data: &[u32]) -> u32
+    fn check_row(
+        self,
+        words: &[u32],
+        list: &[u32],
+        b: ControlNode,
+        address: &[u32],
+        data: &[u32],
+    ) -> u32
         requires { ⌜ Valid (stateOf self (now words) (now list)) × (length (now address) ≡ 2 * self .n) × (length (now «data») ≡ 2 * self .w) ⌝ }
-        ensures { λ r. ⌜ r ≡ firstRow (checkRows (recordOf self) (now (words .entry)) (now (list .entry)) b (now (address .entry)) (now («data» .entry))) ⌝ }
+        ensures { λ r. ⌜ r ≡ firstRow (checkRows (recordOf self) (now (words .entry)) (now (list .entry)) (b .0) (now (address .entry)) (now («data» .entry))) ⌝ }
     {
-        let x = conditions::is_user(words, self.count, b);
+        let x = conditions::is_user(words, self.count, b.0);
         let y = rows::users_up_to(words, self.count, address, address.len());
         let z = rows::users_up_to(words, self.count, data, data.len());
         if !(x & y & z) {

@@ -9,6 +9,7 @@ ghost use Rattle.conditions.specs.User.{isUser};
 ghost use Rattle.conditions.specs.Meet.{neither, together};
 ghost use Rattle.model.specs.Record.{hAt, lAt};
 ghost use Rattle.memory.specs.Contract.{FirstNodes};
+use access::ControlNode;
 
 // Whether row 5 accepts each of the first k words.
 pub fn users_up_to(words: &[u32], count: u32, slice: &[u32], k: usize) -> bool
@@ -42,14 +43,14 @@ pub fn legal_pairs(words: &[u32], count: u32, slice: &[u32], k: usize) -> bool
 }
 
 // Whether no assignment has b and an address bit that is X.
-pub fn apart(words: &[u32], count: u32, b: u32, address: &[u32], n: usize) -> bool
-    requires { ⌜ Standard (now words) count × (b < count) × (2 * n ≤ length (now address)) × (n ≤ 8) × FirstNodes count (2 * n) (now address) ⌝ }
-    ensures { λ r. ⌜ r ≡ every (λ (i : ℕ). not (together (now (words .entry)) b (hAt (now (address .entry)) i) (lAt (now (address .entry)) i))) 0 n ⌝ }
+pub fn apart(words: &[u32], count: u32, b: ControlNode, address: &[u32], n: usize) -> bool
+    requires { ⌜ Standard (now words) count × (b .0 < count) × (2 * n ≤ length (now address)) × (n ≤ 8) × FirstNodes count (2 * n) (now address) ⌝ }
+    ensures { λ r. ⌜ r ≡ every (λ (i : ℕ). not (together (now (words .entry)) (b .0) (hAt (now (address .entry)) i) (lAt (now (address .entry)) i))) 0 n ⌝ }
 {
     let mut i = 0;
     while i < n {
         let at = 2 * i;
-        if conditions::together(words, count, b, address[at], address[at + 1]) {
+        if conditions::together(words, count, b.0, address[at], address[at + 1]) {
             return false;
         }
         i += 1;

@@ -12,7 +12,7 @@ use Rattle.memory.proofs.rows.apart.Statement.{statement}
 use Rattle.memory.proofs.rows.apart.Tie as tie
 
 abbrev Inv-loop : tie.InvT-loop
-Inv-loop words count b address n i₀ i = every (λ (i : ℕ). not (together words b (hAt address i) (lAt address i))) i (n - i) ≡ every (λ (i : ℕ). not (together words b (hAt address i) (lAt address i))) 0 n
+Inv-loop words count b address n i₀ i = every (λ (i : ℕ). not (together words (b .0) (hAt address i) (lAt address i))) i (n - i) ≡ every (λ (i : ℕ). not (together words (b .0) (hAt address i) (lAt address i))) 0 n
 
 abbrev μ-loop : tie.MeasureT-loop
 μ-loop words count b address n i₀ i = n - i
