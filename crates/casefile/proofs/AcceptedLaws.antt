@@ -9,20 +9,13 @@ use lib.ListN.{length}
 use Rattle.text.specs.Text.{Out, appended}
 use Rattle.text.proofs.TextLaws.{appended-append, appended-full, appended-fits}
 use Rattle.lines.specs.Lines.{endLine}
-use Rattle.model.specs.Step.{isRefused, step, run}
-use Rattle.reading.specs.Accesses.{Found, endOf}
+use Rattle.model.specs.Step.{step, run}
 use Rattle.reading.specs.Sections.{Sections, sections}
-use Rattle.casefile.specs.Case.{lineOf, Running, Next, goes, stops, doneAs, done, one, ended, stopped, after, rest, afterSections, whole, accepts, Case}
-use Rattle.casefile.specs.Claims.{callsFrom, endFrom, accessesIn, callsIn, stateIn, AllAccepted, linesOf, SectionsReady, Stands, AllStand, CaseAccepted}
-use Rattle.casefile.proofs.StepLaws.{said-printed}
+use Rattle.casefile.specs.Case.{lineOf, Running, Next, ended, stopped, after, rest, afterSections, whole, accepts, Case}
+use Rattle.casefile.specs.Claims.{callsFrom, endFrom, accessesIn, callsIn, stateIn, AllAccepted, linesOf, SectionsReady, AllStand, CaseAccepted}
 use Rattle.casefile.proofs.RestLaws.{last-printed}
-use Rattle.casefile.proofs.CaseLaws.{callHere, same-sizes, start, begun, case-left}
-
--- the case after the access at its place, where it goes on
-abbrev pub afterOne : List ℕ → Running → Running
-afterOne file c =
-    let x = step (callHere file c) (c .state) in
-    record { state = x .after; at = endOf file (c .at) (c .state .rec .n) (c .state .rec .w); text = appended (lineOf (x .answer) (x .after)) (c .text) }
+use Rattle.casefile.proofs.WayLaws.{callHere, afterOne, one-done}
+use Rattle.casefile.proofs.CaseLaws.{same-sizes, start, begun, case-left}
 
 -- bytes before those that did fit
 fitted : (xs : List ℕ) (o : Out) → appended xs o .text .full ≡ false → o .text .full ≡ false
@@ -31,16 +24,6 @@ fitted xs o e = go (o .text .full) refl
     go : (f : Bool) → o .text .full ≡ f → f ≡ false
     go true q = absurd (false≢true (sym e ∙ ap (λ (x : Out). x .text .full) (appended-full xs o q) ∙ q))
     go false q = refl
-
--- an access that stands there, is accepted, and whose line fits
-pub one-done : (file : List ℕ) (c : Running) → Stands file (c .state .rec .n) (c .state .rec .w) (c .at) → isRefused (step (callHere file c) (c .state) .answer) ≡ false → afterOne file c .text .text .full ≡ false
-    → one file c ≡ goes (afterOne file c)
-unfolding one done
-one-done file c e a f =
-    let x = step (callHere file c) (c .state) in
-    ap (λ (y : Found). doneAs file y (c .state) (c .text)) e
-    ∙ said-printed (x .answer) (x .after) (afterOne file c .at) (c .text) a
-    ∙ ap (λ (y : Bool). cond y (stops 13) (goes (afterOne file c))) f
 
 -- m accesses are left with nothing to refuse, for n and w
 record Left (file : List ℕ) (n w m : ℕ) (c : Running) : Type 0 where
@@ -73,7 +56,7 @@ rest-accepts file (suc m) k c L =
     let Z = same-sizes (callHere file c) (c .state) (L .accepted .0) in
     let again : Accepts file n w m (suc k) d = subst (λ (i : ℕ). Accepts file n i m (suc k) d) (Z .1) (subst (λ (i : ℕ). Accepts file i (x .after .rec .w) m (suc k) d) (Z .0) (rest-accepts file m (suc k) d)) in
     let fits : appended lines (d .text) .text .full ≡ false = ap (λ (o : Out). o .text .full) (sym (appended-append line lines (c .text))) ∙ L .fits in
-    ap (λ (y : Next). after y k (rest file m (suc k))) (one-done file c (L .stand .0) (L .accepted .0) (fitted lines (d .text) fits))
+    ap (λ (y : Next). after y k (rest file m (suc k))) (one-done file c (L .stand .0) (L .accepted .0) false (fitted lines (d .text) fits))
     ∙ again (record { stand = L .stand .1; accepted = L .accepted .1; ends = L .ends; fits = fits })
     ∙ ap (ended (run (callsFrom file n w (d .at) m) (x .after))) (sym (appended-append line lines (c .text)))
 

@@ -2,7 +2,7 @@
 use mathlib.Core.Path.{_≡_, refl, sym, ap, subst, _∙_}
 use mathlib.Core.Bool.{Bool, true, false, cond}
 use mathlib.Core.List.{List, _++_}
-use Prim.Native.Nat.{ℕ, zero, suc, _+_, _*_, _≤_}
+use Prim.Native.Nat.{ℕ, zero, suc, _+_, _≤_}
 use native.Mathlib.Nat.{zero-add}
 use native.Mathlib.Omega.{arith}
 use lib.Dec.{T, ltb}
@@ -14,17 +14,11 @@ use Rattle.lines.specs.Lines.{endLine}
 use Rattle.conditions.specs.Value.{value}
 use Rattle.conditions.specs.Assignment.{bitAt}
 use Rattle.model.specs.Record.{Record}
-use Rattle.model.specs.Step.{State, Call, Answer, place, filled, entered, kept, accepted, valued, node, isRefused, step, run}
-use Rattle.model.specs.Step as model
+use Rattle.model.specs.Step.{State, Call, accepted, isRefused, step, run}
 use Rattle.model.specs.Frames.{SuccessLeaves}
 use Rattle.model.specs.Claims.{Begins, Demand3}
 use Rattle.model.proofs.FrameLaws.{success-leaves}
 use Rattle.model.proofs.Demand3.{demand3}
-use Rattle.reading.specs.declared.Kind.{Kind}
-use Rattle.reading.specs.Bytes.{numbersAt}
-use Rattle.reading.specs.Kinds.{sizeOf}
-use Rattle.reading.specs.Accesses.{Found, found, kindAt, endOf, accessAt}
-use Rattle.reading.specs.Accesses as accesses
 use Rattle.reading.specs.Sections.{Sections, ready, firstRecord, sections}
 use Rattle.reading.specs.Sections as sections
 use Rattle.reading.proofs.AccessLaws.{access-lies}
@@ -34,73 +28,20 @@ use Rattle.memory.specs.Contract.{recordOf}
 use Rattle.casefile.specs.declared.CaseAnswer.{CaseAnswer}
 use Rattle.casefile.specs.declared.CaseAnswer.the-variants as answer
 use Rattle.casefile.specs.Contract.{answered, caseAs}
-use Rattle.casefile.specs.Case.{callOf, lineOf, Running, Next, goes, stops, printed, said, done, doneAs, one, Ended, ended, stopped, last, after, rest, afterSections, whole, accepts, Case, closed, caseOf}
-use Rattle.casefile.specs.Claims.{callAt, callsFrom, endFrom, accessesIn, firstAt, callsIn, stateIn, AllAccepted, linesOf, CaseText, CaseExactly}
+use Rattle.casefile.specs.Case.{Running, Next, one, Ended, ended, stopped, last, after, rest, afterSections, whole, accepts, Case, closed, caseOf}
+use Rattle.casefile.specs.Claims.{callsFrom, endFrom, accessesIn, firstAt, callsIn, stateIn, AllAccepted, linesOf, CaseText, CaseExactly}
 use Rattle.casefile.proofs.RestLaws.{last-left, last-printed}
+use Rattle.casefile.proofs.WayLaws.{callHere, afterOne, Way, goesOn, isOver, isRefusedBy, isMissing, way}
 
--- an access that goes on was accepted, and its line fitted
-record SaidGoes (a : Answer) (s : State) (at : ℕ) (o : Out) (c : Running) : Type 0 where
-  accepted : isRefused a ≡ false
-  is : printed s at (appended (lineOf a s) o) ≡ goes c
-
-said-goes : (a : Answer) (s : State) (at : ℕ) (o : Out) (c : Running) → said a s at o ≡ goes c → SaidGoes a s at o c
-said-goes (model.refused k) s at o c e = let z : _≡_ {A = ℕ} 0 1 = cc in absurd (omega arith)
-said-goes (place k) s at o c e = record { accepted = refl; is = e }
-said-goes (filled r) s at o c e = record { accepted = refl; is = e }
-said-goes entered s at o c e = record { accepted = refl; is = e }
-said-goes kept s at o c e = record { accepted = refl; is = e }
-said-goes accepted s at o c e = record { accepted = refl; is = e }
-said-goes (valued b) s at o c e = record { accepted = refl; is = e }
-said-goes (node n) s at o c e = record { accepted = refl; is = e }
-
-printed-goes : (s : State) (at : ℕ) (o : Out) (c : Running) → printed s at o ≡ goes c → (o .text .full ≡ false) × (c ≡ record { state = s; at = at; text = o })
-printed-goes s at o c e = go (o .text .full) refl e
-  where
-    go : (f : Bool) → o .text .full ≡ f → cond f (stops 13) (goes (record { state = s; at = at; text = o })) ≡ goes c → (o .text .full ≡ false) × (c ≡ record { state = s; at = at; text = o })
-    go true q e = let z : _≡_ {A = ℕ} 0 1 = cc in absurd (omega arith)
-    go false q e = (q, cc)
-
--- the call at a running case's place
-abbrev pub callHere : List ℕ → Running → Call
-callHere file c = callAt file (c .state .rec .n) (c .state .rec .w) (c .at)
-
-record Goes (file : List ℕ) (c d : Running) : Type 0 where
-  accepted : isRefused (step (callHere file c) (c .state) .answer) ≡ false
-  is : d ≡ record { state = step (callHere file c) (c .state) .after; at = endOf file (c .at) (c .state .rec .n) (c .state .rec .w); text = appended (lineOf (step (callHere file c) (c .state) .answer) (step (callHere file c) (c .state) .after)) (c .text) }
-  inside : d .at ≤ length file
-
-one-goes : (file : List ℕ) (c d : Running) → one file c ≡ goes d → Goes file c d
-unfolding one done
-one-goes file c d e = go (accessAt file (c .at) (c .state .rec .n) (c .state .rec .w)) refl e
-  where
-    go : (f : Found) → accessAt file (c .at) (c .state .rec .n) (c .state .rec .w) ≡ f → doneAs file f (c .state) (c .text) ≡ goes d → Goes file c d
-    go (found k from next) q e =
-        let n = c .state .rec .n in
-        let w = c .state .rec .w in
-        let L = access-lies file (c .at) n w (sym q) in
-        let call : Kind → ℕ → Call = λ i j. callOf i n w (numbersAt file j (sizeOf i n w)) in
-        let same : call k from ≡ callHere file c = ap (λ (i : Kind). call i from) (L .kind-is) ∙ ap (call (kindAt file (c .at))) (L .from-is) in
-        let next-is : next ≡ endOf file (c .at) n w = L .next-is ∙ ap (λ (i : ℕ). i + 2 * sizeOf k n w) (L .from-is) ∙ ap (λ (i : Kind). c .at + 1 + 2 * sizeOf i n w) (L .kind-is) in
-        let S = said-goes (step (call k from) (c .state) .answer) (step (call k from) (c .state) .after) next (c .text) d e in
-        let P = printed-goes _ _ _ d (S .is) in
-        let there : Call → ℕ → Running = λ x i. record { state = step x (c .state) .after; at = i; text = appended (lineOf (step x (c .state) .answer) (step x (c .state) .after)) (c .text) } in
-        let at-is : d .at ≡ next = ap (λ (x : Running). x .at) (P .1) in
-        record {
-          accepted = ap (λ (x : Call). isRefused (step x (c .state) .answer)) (sym same) ∙ S .accepted;
-          is = P .1 ∙ ap (λ (x : Call). there x next) same ∙ ap (there (callHere file c)) next-is;
-          inside = omega (arith, L .inside);
-        }
-    go (accesses.refused k) q e = let z : _≡_ {A = ℕ} 0 1 = cc in absurd (omega arith)
-
--- what the accesses that are left come to, where the case is accepted
-record Comes (file : List ℕ) (m : ℕ) (c : Running) (s : State) (o : Out) : Type 0 where
-  ends : endFrom file (c .state .rec .n) (c .state .rec .w) (c .at) m ≡ length file
-  accepted : AllAccepted (callsFrom file (c .state .rec .n) (c .state .rec .w) (c .at) m) (c .state)
-  state : s ≡ run (callsFrom file (c .state .rec .n) (c .state .rec .w) (c .at) m) (c .state)
-  text : o ≡ appended (linesOf (callsFrom file (c .state .rec .n) (c .state .rec .w) (c .at) m) (c .state)) (c .text)
+-- what m accesses that are left come to, for n and w, where the case is accepted
+record Comes (file : List ℕ) (n w m : ℕ) (c : Running) (s : State) (o : Out) : Type 0 where
+  ends : endFrom file n w (c .at) m ≡ length file
+  accepted : AllAccepted (callsFrom file n w (c .at) m) (c .state)
+  state : s ≡ run (callsFrom file n w (c .at) m) (c .state)
+  text : o ≡ appended (linesOf (callsFrom file n w (c .at) m) (c .state)) (c .text)
   free : o .text .full ≡ false
 
-last-ended : (file : List ℕ) (k : ℕ) (c : Running) (s : State) (o : Out) → c .at ≤ length file → last file k c ≡ ended s o → Comes file 0 c s o
+last-ended : (file : List ℕ) (k : ℕ) (c : Running) (s : State) (o : Out) → c .at ≤ length file → last file k c ≡ ended s o → Comes file (c .state .rec .n) (c .state .rec .w) 0 c s o
 unfolding callsFrom endFrom run
 last-ended file k c s o h e = go (ltb (c .at) (length file)) refl
   where
@@ -111,7 +52,7 @@ last-ended file k c s o h e = go (ltb (c .at) (length file)) refl
     full true q e = let z : _≡_ {A = ℕ} 0 1 = cc in absurd (omega arith)
     full false q e = (cc, cc, q)
 
-    go : (f : Bool) → ltb (c .at) (length file) ≡ f → Comes file 0 c s o
+    go : (f : Bool) → ltb (c .at) (length file) ≡ f → Comes file (c .state .rec .n) (c .state .rec .w) 0 c s o
     go true q =
         let u : stopped 12 k ≡ ended s o = sym (last-left file k c (ltb-true (c .at) (length file) q)) ∙ e in
         let z : _≡_ {A = ℕ} 0 1 = cc in
@@ -126,33 +67,29 @@ pub same-sizes : (x : Call) (s : State) → isRefused (step x s .answer) ≡ fal
 unfolding SuccessLeaves
 same-sizes x s e = let E = success-leaves x s e in (E .n, E .w)
 
-rest-ended : (file : List ℕ) (m k : ℕ) (c : Running) (s : State) (o : Out) → c .at ≤ length file → rest file m k c ≡ ended s o → Comes file m c s o
+rest-ended : (file : List ℕ) (m k : ℕ) (c : Running) (s : State) (o : Out) → c .at ≤ length file → rest file m k c ≡ ended s o → Comes file (c .state .rec .n) (c .state .rec .w) m c s o
 unfolding rest callsFrom endFrom run
 rest-ended file zero k c s o h e = last-ended file k c s o h e
-rest-ended file (suc m) k c s o h e = go (λ d. rest-ended file m (suc k) d s o) (one file c) refl e
+rest-ended file (suc m) k c s o h e = go (λ d. rest-ended file m (suc k) d s o) (way file c)
   where
-    go : ((d : Running) → d .at ≤ length file → rest file m (suc k) d ≡ ended s o → Comes file m d s o) → (x : Next) → one file c ≡ x → after x k (rest file m (suc k)) ≡ ended s o → Comes file (suc m) c s o
-    go again (goes d) q e =
+    from : {x : Next} → one file c ≡ x → after x k (rest file m (suc k)) ≡ ended s o
+    from q = ap (λ (x : Next). after x k (rest file m (suc k))) (sym q) ∙ e
+
+    no : (a b : ℕ) → stopped a b ≡ ended s o → Comes file (c .state .rec .n) (c .state .rec .w) (suc m) c s o
+    no a b u = let z : _≡_ {A = ℕ} 0 1 = cc in absurd (omega arith)
+
+    go : ((d : Running) → d .at ≤ length file → rest file m (suc k) d ≡ ended s o → Comes file (d .state .rec .n) (d .state .rec .w) m d s o) → Way file c → Comes file (c .state .rec .n) (c .state .rec .w) (suc m) c s o
+    go again (goesOn q t a f) =
         let n = c .state .rec .n in
         let w = c .state .rec .w in
-        let G = one-goes file c d q in
-        let t = step (callHere file c) (c .state) .after in
-        let line = lineOf (step (callHere file c) (c .state) .answer) t in
-        let at′ = endOf file (c .at) n w in
-        let there : Running = record { state = t; at = at′; text = appended line (c .text) } in
-        let C : Comes file m there s o = subst (λ (x : Running). Comes file m x s o) (G .is) (again d (G .inside) e) in
-        let Z = same-sizes (callHere file c) (c .state) (G .accepted) in
-        let cs = callsFrom file n w at′ m in
-        let same : callsFrom file (t .rec .n) (t .rec .w) at′ m ≡ cs = ap (λ (i : ℕ). callsFrom file i (t .rec .w) at′ m) (Z .0) ∙ ap (λ (i : ℕ). callsFrom file n i at′ m) (Z .1) in
-        let sameEnd : endFrom file (t .rec .n) (t .rec .w) at′ m ≡ endFrom file n w at′ m = ap (λ (i : ℕ). endFrom file i (t .rec .w) at′ m) (Z .0) ∙ ap (λ (i : ℕ). endFrom file n i at′ m) (Z .1) in
-        record {
-          ends = sym sameEnd ∙ C .ends;
-          accepted = (G .accepted, subst (λ (x : List Call). AllAccepted x t) same (C .accepted));
-          state = C .state ∙ ap (λ (x : List Call). run x t) same;
-          text = C .text ∙ ap (λ (x : List Call). appended (linesOf x t) (appended line (c .text))) same ∙ sym (appended-append line (linesOf cs t) (c .text));
-          free = C .free;
-        }
-    go again (stops r) q e = let z : _≡_ {A = ℕ} 0 1 = cc in absurd (omega arith)
+        let d = afterOne file c in
+        let Z = same-sizes (callHere file c) (c .state) a in
+        let C : Comes file n w m d s o =
+        subst (λ (x : ℕ). Comes file n x m d s o) (Z .1) (subst (λ (x : ℕ). Comes file x (d .state .rec .w) m d s o) (Z .0) (again d (access-lies file (c .at) n w (sym t) .inside) (from q))) in
+        record { ends = C .ends; accepted = (a, C .accepted); state = C .state; text = C .text ∙ sym (appended-append _ (linesOf (callsFrom file n w (d .at) m) (d .state)) (c .text)); free = C .free }
+    go again (isOver q t a f) = no _ _ (from q)
+    go again (isRefusedBy x q t a) = no _ _ (from q)
+    go again (isMissing x q t) = no _ _ (from q)
 
 -- the case with which the accesses of a file begin
 abbrev pub start : List ℕ → List ℕ → List ℕ → List ℕ → Running

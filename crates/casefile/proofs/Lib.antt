@@ -3,6 +3,7 @@ pub mod WordLaws
 pub mod StepLaws
 pub mod RestLaws
 pub mod ZeroLaws
+pub mod WayLaws
 pub mod CaseLaws
 pub mod AcceptedLaws
 pub mod RefusedLaws

@@ -3,7 +3,7 @@ use mathlib.Core.Path.{_≡_, refl, sym, ap, subst, _∙_}
 use mathlib.Core.Bool.{Bool, true, false, cond}
 use mathlib.Core.List.{List, append-nil}
 use mathlib.Core.Logic.{_⊎_, inl, inr}
-use Prim.Native.Nat.{ℕ, zero, suc, _+_, _*_, _<_, _≤_}
+use Prim.Native.Nat.{ℕ, zero, suc, _+_, _<_, _≤_}
 use native.Mathlib.Omega.{arith}
 use lib.Dec.{ltb}
 use lib.ListN.{length, getD}
@@ -11,83 +11,18 @@ use borrow.Author.Tests.{ltb-true, ltb-false}
 use Rattle.text.specs.Text.{Out, growing, appended}
 use Rattle.text.proofs.TextLaws.{appended-append, appended-is-full}
 use Rattle.lines.specs.Lines.{endLine}
-use Rattle.model.specs.Step.{Answer, place, filled, entered, kept, accepted, valued, node, isRefused, step, run}
+use Rattle.model.specs.Step.{accepted, isRefused, step, run}
 use Rattle.model.specs.Step as model
-use Rattle.reading.specs.declared.Kind.{Kind}
-use Rattle.reading.specs.Kinds.{sizeOf}
-use Rattle.reading.specs.Accesses.{Found, found, endOf, accessAt}
+use Rattle.reading.specs.Accesses.{accessAt}
 use Rattle.reading.specs.Accesses as accesses
 use Rattle.reading.specs.Sections.{Sections, ready, sections}
 use Rattle.reading.specs.Sections as sections
-use Rattle.reading.proofs.AccessLaws.{access-lies}
 use Rattle.reading.proofs.SectionLaws.{sections-read}
-use Rattle.casefile.specs.Case.{lineOf, Running, Next, goes, stops, said, doneAs, done, one, Ended, ended, stopped, last, after, rest, afterSections, whole, refuses, closed, caseOf}
+use Rattle.casefile.specs.Case.{lineOf, Running, Next, stops, one, Ended, ended, stopped, last, after, rest, afterSections, whole, refuses, closed, caseOf}
 use Rattle.casefile.specs.Claims.{callAt, callsFrom, endFrom, accessesIn, firstAt, stateIn, AllAccepted, linesOf, SectionsReady, Stands, AllStand, accessLines, firstCalls, RefusedAt, missing, refusedCall, lineOver, bytesLeft, endOver, RefusedAfter, CaseRefused}
-use Rattle.casefile.proofs.StepLaws.{said-printed}
 use Rattle.casefile.proofs.RestLaws.{last-left, last-printed}
-use Rattle.casefile.proofs.CaseLaws.{callHere, same-sizes, start, begun}
-use Rattle.casefile.proofs.AcceptedLaws.{afterOne, one-done}
-
--- the number of a refusal
-record Numbered (a : Answer) : Type 0 where
-  number : ℕ
-  is : a ≡ model.refused number
-
-numbered : (a : Answer) → isRefused a ≡ true → Numbered a
-numbered (model.refused k) e = record { number = k; is = refl }
-numbered (place k) e = let z : _≡_ {A = ℕ} 0 1 = cc in absurd (omega arith)
-numbered (filled r) e = let z : _≡_ {A = ℕ} 0 1 = cc in absurd (omega arith)
-numbered entered e = let z : _≡_ {A = ℕ} 0 1 = cc in absurd (omega arith)
-numbered kept e = let z : _≡_ {A = ℕ} 0 1 = cc in absurd (omega arith)
-numbered accepted e = let z : _≡_ {A = ℕ} 0 1 = cc in absurd (omega arith)
-numbered (valued b) e = let z : _≡_ {A = ℕ} 0 1 = cc in absurd (omega arith)
-numbered (node n) e = let z : _≡_ {A = ℕ} 0 1 = cc in absurd (omega arith)
-
--- the ways of an access
-abbrev StandsHere : List ℕ → Running → Type 0
-StandsHere file c = Stands file (c .state .rec .n) (c .state .rec .w) (c .at)
-
-abbrev answerHere : List ℕ → Running → Answer
-answerHere file c = step (callHere file c) (c .state) .answer
-
-data Way (file : List ℕ) (c : Running) : Type 0 where
-  goesOn : one file c ≡ goes (afterOne file c) → StandsHere file c → isRefused (answerHere file c) ≡ false → afterOne file c .text .text .full ≡ false → Way file c
-  isOver : one file c ≡ stops 13 → StandsHere file c → isRefused (answerHere file c) ≡ false → afterOne file c .text .text .full ≡ true → Way file c
-  isRefusedBy : (k : ℕ) → one file c ≡ stops k → StandsHere file c → answerHere file c ≡ model.refused k → Way file c
-  isMissing : (k : ℕ) → one file c ≡ stops k → accessAt file (c .at) (c .state .rec .n) (c .state .rec .w) ≡ accesses.refused k → Way file c
-
--- an access that is found stands there
-found-stands : (file : List ℕ) (at n w : ℕ) {k : Kind} {from next : ℕ} → accessAt file at n w ≡ found k from next → Stands file n w at
-found-stands file at n w {k} {from} {next} q =
-    let L = access-lies file at n w (sym q) in
-    let next-is : next ≡ endOf file at n w = L .next-is ∙ ap (λ (i : ℕ). i + 2 * sizeOf k n w) (L .from-is) ∙ ap (λ (i : Kind). at + 1 + 2 * sizeOf i n w) (L .kind-is) in
-    q ∙ (λ i. found (L .kind-is i) (L .from-is i) (next-is i))
-
-module _ (file : List ℕ) (c : Running) where
-  one-said : StandsHere file c → one file c ≡ said (answerHere file c) (afterOne file c .state) (afterOne file c .at) (c .text)
-  unfolding one done
-  one-said S = ap (λ (y : Found). doneAs file y (c .state) (c .text)) S
-
-  one-none : {k : ℕ} → accessAt file (c .at) (c .state .rec .n) (c .state .rec .w) ≡ accesses.refused k → one file c ≡ stops k
-  unfolding one
-  one-none q = ap (λ (y : Found). doneAs file y (c .state) (c .text)) q
-
-  way : Way file c
-  way = there (accessAt file (c .at) (c .state .rec .n) (c .state .rec .w)) refl
-    where
-      line : (f : Bool) → afterOne file c .text .text .full ≡ f → StandsHere file c → isRefused (answerHere file c) ≡ false → Way file c
-      line true q S a = isOver (one-said S ∙ said-printed (answerHere file c) (afterOne file c .state) (afterOne file c .at) (c .text) a ∙ ap (λ (y : Bool). cond y (stops 13) (goes (afterOne file c))) q) S a q
-      line false q S a = goesOn (one-done file c S a q) S a q
-
-      called : (b : Bool) → isRefused (answerHere file c) ≡ b → StandsHere file c → Way file c
-      called true q S =
-          let N = numbered (answerHere file c) q in
-          isRefusedBy (N .number) (one-said S ∙ ap (λ (a : Answer). said a (afterOne file c .state) (afterOne file c .at) (c .text)) (N .is)) S (N .is)
-      called false q S = line (afterOne file c .text .text .full) refl S q
-
-      there : (f : Found) → accessAt file (c .at) (c .state .rec .n) (c .state .rec .w) ≡ f → Way file c
-      there (found k from next) q = called (isRefused (answerHere file c)) refl (found-stands file (c .at) (c .state .rec .n) (c .state .rec .w) q)
-      there (accesses.refused k) q = isMissing k (one-none q) q
+use Rattle.casefile.proofs.WayLaws.{callHere, afterOne, StandsHere, answerHere, Way, goesOn, isOver, isRefusedBy, isMissing, way}
+use Rattle.casefile.proofs.CaseLaws.{same-sizes, start, begun}
 
 -- why a running case with m accesses left stops by the number r after j of them, for n and w
 data Why (file : List ℕ) (n w m : ℕ) (c : Running) (r j : ℕ) : Type 0 where
