@@ -29,12 +29,13 @@ use Rattle.casefile.specs.declared.CaseAnswer.{CaseAnswer}
 use Rattle.casefile.specs.declared.CaseAnswer.the-variants as answer
 use Rattle.casefile.specs.Contract.{answered, caseAs}
 use Rattle.casefile.specs.Case.{Running, Next, one, Ended, ended, stopped, last, after, rest, afterSections, whole, accepts, Case, closed, caseOf}
-use Rattle.casefile.specs.Claims.{callsFrom, endFrom, accessesIn, firstAt, callsIn, stateIn, AllAccepted, linesOf, CaseText, CaseExactly}
+use Rattle.casefile.specs.Claims.{callsFrom, endFrom, accessesIn, firstAt, callsIn, stateIn, AllAccepted, linesOf, SectionsReady, AllStand, CaseText, CaseExactly}
 use Rattle.casefile.proofs.RestLaws.{last-left, last-printed}
 use Rattle.casefile.proofs.WayLaws.{callHere, afterOne, Way, goesOn, isOver, isRefusedBy, isMissing, way}
 
 -- what m accesses that are left come to, for n and w, where the case is accepted
 record Comes (file : List ℕ) (n w m : ℕ) (c : Running) (s : State) (o : Out) : Type 0 where
+  stand : AllStand file n w (c .at) m
   ends : endFrom file n w (c .at) m ≡ length file
   accepted : AllAccepted (callsFrom file n w (c .at) m) (c .state)
   state : s ≡ run (callsFrom file n w (c .at) m) (c .state)
@@ -60,7 +61,7 @@ last-ended file k c s o h e = go (ltb (c .at) (length file)) refl
     go false q =
         let l : length file ≤ c .at = ltb-false (c .at) (length file) q in
         let F = full (end .text .full) refl (sym (last-printed file k c l) ∙ e) in
-        record { ends = omega arith; accepted = tt; state = F .0; text = F .1; free = ap (λ (x : Out). x .text .full) (F .1) ∙ F .2 }
+        record { stand = tt; ends = omega arith; accepted = tt; state = F .0; text = F .1; free = ap (λ (x : Out). x .text .full) (F .1) ∙ F .2 }
 
 -- n and w stay
 pub same-sizes : (x : Call) (s : State) → isRefused (step x s .answer) ≡ false → (step x s .after .rec .n ≡ s .rec .n) × (step x s .after .rec .w ≡ s .rec .w)
@@ -86,7 +87,7 @@ rest-ended file (suc m) k c s o h e = go (λ d. rest-ended file m (suc k) d s o)
         let Z = same-sizes (callHere file c) (c .state) a in
         let C : Comes file n w m d s o =
         subst (λ (x : ℕ). Comes file n x m d s o) (Z .1) (subst (λ (x : ℕ). Comes file x (d .state .rec .w) m d s o) (Z .0) (again d (access-lies file (c .at) n w (sym t) .inside) (from q))) in
-        record { ends = C .ends; accepted = (a, C .accepted); state = C .state; text = C .text ∙ sym (appended-append _ (linesOf (callsFrom file n w (d .at) m) (d .state)) (c .text)); free = C .free }
+        record { stand = (t, C .stand); ends = C .ends; accepted = (a, C .accepted); state = C .state; text = C .text ∙ sym (appended-append _ (linesOf (callsFrom file n w (d .at) m) (d .state)) (c .text)); free = C .free }
     go again (isOver q t a f) = no _ _ (from q)
     go again (isRefusedBy x q t a) = no _ _ (from q)
     go again (isMissing x q t) = no _ _ (from q)
@@ -96,6 +97,7 @@ abbrev pub start : List ℕ → List ℕ → List ℕ → List ℕ → Running
 start file words list text = record { state = stateIn file words list; at = firstAt file; text = growing text 0 }
 
 record Began (file words list text : List ℕ) (s : State) (o : Out) : Type 0 where
+  read : SectionsReady file words
   begins : Begins (stateIn file words list)
   inside : firstAt file ≤ length file
   is : rest file (accessesIn file) 0 (start file words list text) ≡ ended s o
@@ -121,6 +123,7 @@ whole-began file words list text s o e = go (sections file words .1) refl e
         let state-is : record { rec = firstRecord n w count; words = ws; list = list } ≡ stateIn file words list =
         λ i. record { rec = record { n = R .n-is i; w = R .w-is i; count = R .count-is i; entries = 0; asserted = 1; checked = 1 }; words = R .words-are i; list = list } in
         record {
+          read = q ∙ (λ i. ready (R .n-is i) (R .w-is i) (R .count-is i) (R .accesses-is i) (R .at-is i));
           begins = subst Begins state-is (sections-begin R list);
           inside = omega (arith, R .at-is, R .inside);
           is = sym (begun file words list text q) ∙ e;
@@ -165,6 +168,8 @@ case-text file words list text k r e =
     let left = case-left file words list text (E .is) in
     let size-is : k ≡ length xs = E .size ∙ ap (λ (x : Out). x .text .at) (F .1) in
     record {
+      read = B .read;
+      stand = C .stand;
       ends = C .ends;
       accepted = C .accepted;
       last = E .rec ∙ ap (λ (x : State). x .rec) (C .state);

@@ -60,21 +60,6 @@ abbrev pub linesOf : List Call → State → List ℕ
 linesOf [] s = endLine (s .rec .entries)
 linesOf (c ∷ cs) s = lineOf (step c s .answer) (step c s .after) ++ linesOf cs (step c s .after)
 
--- a case that answered the text length k and the record r, and left c: the file ends with its last access; all its calls are accepted; record, node words
--- and list are those that they leave; and the text is their lines, k bytes, while it "leaves later text bytes untouched"
-pub record Printed (file words list text : List ℕ) (k : ℕ) (r : Record) (c : Case) : Type 0 where
-  pub ends : endFrom file (getD file 0 0) (getD file 1 0) (firstAt file) (accessesIn file) ≡ length file
-  pub accepted : AllAccepted (callsIn file) (stateIn file words list)
-  pub last : r ≡ run (callsIn file) (stateIn file words list) .rec
-  pub nodes : c .words ≡ run (callsIn file) (stateIn file words list) .words
-  pub entries : c .list ≡ run (callsIn file) (stateIn file words list) .list
-  pub size : k ≡ length (linesOf (callsIn file) (stateIn file words list))
-  pub fits : k ≤ length text
-  pub bytes : c .text ≡ linesOf (callsIn file) (stateIn file words list) ++ drop k text
-
-unfoldable pub CaseText : Type 0
-CaseText = (file words list text : List ℕ) (k : ℕ) (r : Record) → caseOf file words list text .answer ≡ accepts k r → Printed file words list text k r (caseOf file words list text)
-
 -- the sections of a file are read
 abbrev pub SectionsReady : List ℕ → List ℕ → Type 0
 SectionsReady file words = sections file words .1 ≡ ready (getD file 0 0) (getD file 1 0) (nodesIn file + 2) (accessesIn file) (firstAt file)
@@ -87,6 +72,23 @@ Stands file n w at = accessAt file at n w ≡ found (kindAt file at) (at + 1) (e
 abbrev pub AllStand : List ℕ → ℕ → ℕ → ℕ → ℕ → Type 0
 AllStand file n w at zero = Unit {0}
 AllStand file n w at (suc m) = Stands file n w at × AllStand file n w (endOf file at n w) m
+
+-- a case that answered the text length k and the record r, and left c: its sections are read; its accesses stand there, and the file ends with the last; all its calls are accepted; record, node words
+-- and list are those that they leave; and the text is their lines, k bytes, while it "leaves later text bytes untouched"
+pub record Printed (file words list text : List ℕ) (k : ℕ) (r : Record) (c : Case) : Type 0 where
+  pub read : SectionsReady file words
+  pub stand : AllStand file (getD file 0 0) (getD file 1 0) (firstAt file) (accessesIn file)
+  pub ends : endFrom file (getD file 0 0) (getD file 1 0) (firstAt file) (accessesIn file) ≡ length file
+  pub accepted : AllAccepted (callsIn file) (stateIn file words list)
+  pub last : r ≡ run (callsIn file) (stateIn file words list) .rec
+  pub nodes : c .words ≡ run (callsIn file) (stateIn file words list) .words
+  pub entries : c .list ≡ run (callsIn file) (stateIn file words list) .list
+  pub size : k ≡ length (linesOf (callsIn file) (stateIn file words list))
+  pub fits : k ≤ length text
+  pub bytes : c .text ≡ linesOf (callsIn file) (stateIn file words list) ++ drop k text
+
+unfoldable pub CaseText : Type 0
+CaseText = (file words list text : List ℕ) (k : ℕ) (r : Record) → caseOf file words list text .answer ≡ accepts k r → Printed file words list text k r (caseOf file words list text)
 
 -- a case with nothing to refuse: its sections are read; its accesses stand there, and their calls are accepted; the file ends with the last; and the text buffer takes the lines
 pub record Acceptable (file words list text : List ℕ) : Type 0 where
