@@ -19,7 +19,7 @@ use Rattle.reading.specs.Sections.{Sections, ready, sections}
 use Rattle.reading.specs.Sections as sections
 use Rattle.reading.proofs.SectionLaws.{sections-read}
 use Rattle.casefile.specs.Case.{lineOf, Running, Next, stops, one, Ended, ended, stopped, last, after, rest, afterSections, whole, refuses, closed, caseOf}
-use Rattle.casefile.specs.Claims.{callAt, callsFrom, endFrom, accessesIn, firstAt, stateIn, AllAccepted, linesOf, SectionsReady, Stands, AllStand, accessLines, firstCalls, RefusedAt, missing, refusedCall, lineOver, bytesLeft, endOver, RefusedAfter, CaseRefused}
+use Rattle.casefile.specs.Claims.{callAt, callsFrom, endFrom, accessesIn, firstAt, stateIn, AllAccepted, linesOf, SectionsReady, StandsAt, AllStand, accessLines, firstCalls, RefusedAt, missing, refusedCall, lineOver, bytesLeft, endOver, RefusedAfter, CaseRefused}
 use Rattle.casefile.proofs.RestLaws.{last-left, last-printed}
 use Rattle.casefile.proofs.WayLaws.{callHere, afterOne, StandsHere, answerHere, Way, goesOn, isOver, isRefusedBy, isMissing, way}
 use Rattle.casefile.proofs.CaseLaws.{same-sizes, start, begun}
@@ -27,8 +27,8 @@ use Rattle.casefile.proofs.CaseLaws.{same-sizes, start, begun}
 -- why a running case with m accesses left stops by the number r after j of them, for n and w
 data Why (file : List ℕ) (n w m : ℕ) (c : Running) (r j : ℕ) : Type 0 where
   whyMissing : j < m → accessAt file (endFrom file n w (c .at) j) n w ≡ accesses.refused r → Why file n w m c r j
-  whyRefused : j < m → Stands file n w (endFrom file n w (c .at) j) → step (callAt file n w (endFrom file n w (c .at) j)) (run (callsFrom file n w (c .at) j) (c .state)) .answer ≡ model.refused r → Why file n w m c r j
-  whyOver : j < m → Stands file n w (endFrom file n w (c .at) j) → isRefused (step (callAt file n w (endFrom file n w (c .at) j)) (run (callsFrom file n w (c .at) j) (c .state)) .answer) ≡ false
+  whyRefused : j < m → StandsAt file n w (endFrom file n w (c .at) j) → step (callAt file n w (endFrom file n w (c .at) j)) (run (callsFrom file n w (c .at) j) (c .state)) .answer ≡ model.refused r → Why file n w m c r j
+  whyOver : j < m → StandsAt file n w (endFrom file n w (c .at) j) → isRefused (step (callAt file n w (endFrom file n w (c .at) j)) (run (callsFrom file n w (c .at) j) (c .state)) .answer) ≡ false
       → appended (accessLines (callsFrom file n w (c .at) (suc j)) (c .state)) (c .text) .text .full ≡ true → r ≡ 13 → Why file n w m c r j
   whyLeft : j ≡ m → endFrom file n w (c .at) j < length file → r ≡ 12 → Why file n w m c r j
   whyEnd : j ≡ m → length file ≤ endFrom file n w (c .at) j → appended (linesOf (callsFrom file n w (c .at) m) (c .state)) (c .text) .text .full ≡ true → r ≡ 13 → Why file n w m c r j

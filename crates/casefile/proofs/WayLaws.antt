@@ -13,7 +13,7 @@ use Rattle.reading.specs.Accesses.{Found, found, endOf, accessAt}
 use Rattle.reading.specs.Accesses as accesses
 use Rattle.reading.proofs.AccessLaws.{access-lies}
 use Rattle.casefile.specs.Case.{lineOf, Running, goes, stops, said, doneAs, done, one}
-use Rattle.casefile.specs.Claims.{callAt, Stands}
+use Rattle.casefile.specs.Claims.{callAt, StandsAt}
 use Rattle.casefile.proofs.StepLaws.{said-printed}
 
 -- the call at a running case's place
@@ -28,7 +28,7 @@ afterOne file c =
 
 -- an access stands there, and what it answers
 abbrev pub StandsHere : List ℕ → Running → Type 0
-StandsHere file c = Stands file (c .state .rec .n) (c .state .rec .w) (c .at)
+StandsHere file c = StandsAt file (c .state .rec .n) (c .state .rec .w) (c .at)
 
 abbrev pub answerHere : List ℕ → Running → Answer
 answerHere file c = step (callHere file c) (c .state) .answer
@@ -56,7 +56,7 @@ numbered (valued b) e = let z : _≡_ {A = ℕ} 0 1 = cc in absurd (omega arith)
 numbered (node n) e = let z : _≡_ {A = ℕ} 0 1 = cc in absurd (omega arith)
 
 -- an access that is found stands there
-found-stands : (file : List ℕ) (at n w : ℕ) {k : Kind} {from next : ℕ} → accessAt file at n w ≡ found k from next → Stands file n w at
+found-stands : (file : List ℕ) (at n w : ℕ) {k : Kind} {from next : ℕ} → accessAt file at n w ≡ found k from next → StandsAt file n w at
 found-stands file at n w {k} {from} {next} q =
     let L = access-lies file at n w (sym q) in
     let next-is : next ≡ endOf file at n w = L .next-is ∙ ap (λ (i : ℕ). i + 2 * sizeOf k n w) (L .from-is) ∙ ap (λ (i : Kind). at + 1 + 2 * sizeOf i n w) (L .kind-is) in

@@ -65,13 +65,13 @@ abbrev pub SectionsReady : List ℕ → List ℕ → Type 0
 SectionsReady file words = sections file words .1 ≡ ready (getD file 0 0) (getD file 1 0) (nodesIn file + 2) (accessesIn file) (firstAt file)
 
 -- an access stands at this place, for n and w
-abbrev pub Stands : List ℕ → ℕ → ℕ → ℕ → Type 0
-Stands file n w at = accessAt file at n w ≡ found (kindAt file at) (at + 1) (endOf file at n w)
+abbrev pub StandsAt : List ℕ → ℕ → ℕ → ℕ → Type 0
+StandsAt file n w at = accessAt file at n w ≡ found (kindAt file at) (at + 1) (endOf file at n w)
 
 -- m accesses stand there, each from the byte after the one before it
 abbrev pub AllStand : List ℕ → ℕ → ℕ → ℕ → ℕ → Type 0
 AllStand file n w at zero = Unit {0}
-AllStand file n w at (suc m) = Stands file n w at × AllStand file n w (endOf file at n w) m
+AllStand file n w at (suc m) = StandsAt file n w at × AllStand file n w (endOf file at n w) m
 
 -- a case that answered the text length k and the record r, and left c: its sections are read; its accesses stand there, and the file ends with the last; all its calls are accepted; record, node words
 -- and list are those that they leave; and the text is their lines, k bytes, while it "leaves later text bytes untouched"
@@ -123,8 +123,8 @@ accessLines (c ∷ cs) s = lineOf (step c s .answer) (step c s .after) ++ access
 -- left, or the last line does not fit
 pub data RefusedAt (file words list text : List ℕ) (number k : ℕ) : Type 0 where
   missing : k < accessesIn file → accessAt file (byteAfter file k) (getD file 0 0) (getD file 1 0) ≡ accesses.refused number → RefusedAt file words list text number k
-  refusedCall : k < accessesIn file → Stands file (getD file 0 0) (getD file 1 0) (byteAfter file k) → answerAfter file words list k ≡ refused number → RefusedAt file words list text number k
-  lineOver : k < accessesIn file → Stands file (getD file 0 0) (getD file 1 0) (byteAfter file k) → isRefused (answerAfter file words list k) ≡ false
+  refusedCall : k < accessesIn file → StandsAt file (getD file 0 0) (getD file 1 0) (byteAfter file k) → answerAfter file words list k ≡ refused number → RefusedAt file words list text number k
+  lineOver : k < accessesIn file → StandsAt file (getD file 0 0) (getD file 1 0) (byteAfter file k) → isRefused (answerAfter file words list k) ≡ false
       → length text < length (accessLines (firstCalls file (suc k)) (stateIn file words list)) → number ≡ 13 → RefusedAt file words list text number k
   bytesLeft : k ≡ accessesIn file → byteAfter file k < length file → number ≡ 12 → RefusedAt file words list text number k
   endOver : k ≡ accessesIn file → length file ≤ byteAfter file k → length text < length (linesOf (callsIn file) (stateIn file words list)) → number ≡ 13 → RefusedAt file words list text number k
