@@ -12,9 +12,3 @@ pub fn counted(s: &[u8], x: u32) {
     bytes(s);
     number(x);
 }
-
-// A name on a line of its own.
-pub fn title(name: &[u8]) {
-    bytes(name);
-    bytes(b"\n");
-}
