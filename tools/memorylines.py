@@ -163,10 +163,10 @@ class Run:
         return said, r._replace(count=c.count(), entries=len(m.entries),
                                 asserted=c.numbers[m.assert_condition], checked=c.numbers[m.check_condition])
 
-    @staticmethod
-    def value(c, table):
-        """The value with variable 8 true and no other."""
-        a = 1 << c.place[8] if 8 in c.place else 0
+    def value(self, c, table):
+        """The value under the assignment whose 32-bit halves are the address, the lower first."""
+        assignment = self.address[0] | self.address[1] << 32
+        a = sum((assignment >> v & 1) << place for v, place in c.place.items())
         return table >> a & 1
 
     def run(self):
@@ -276,6 +276,22 @@ def writes(name, many, words, entries=0):
     put("%s: %s; entries %d\n" % (name, said, entries))
 
 
+def one_assert(name, entries, data, words):
+    """An assert of a bit at 0, n = 1 and w = 1, with room for 6 nodes."""
+    nodes = TERMINALS + [7] * 18
+    said, after = silent("assert", Record(1, 1, 2, entries, 1, 1), nodes, words, [1], [0, 1], data)
+    put("%s: %s; entries %d\n" % (name, said, after.entries))
+
+
+def fill(words, count):
+    """The pairs of unequal nodes, on variable 63 those below 2, on 62 below 4, on 61 below 16, on 60 below 256."""
+    nodes = [(64, 0, 0), (64, 1, 1)]
+    for v in (63, 62, 61, 60):
+        below = range(len(nodes))
+        nodes += [(v, low, high) for low in below for high in below if low != high]
+    words[:3 * count] = [x for node in nodes[:count] for x in node]
+
+
 def translate(text):
     """The straight lines of a source file as Python."""
     text = re.sub(r"^\s*//.*$", "", text, flags=re.M)
@@ -310,15 +326,16 @@ def record(match):
 
 def main():
     native = dict(Record=Record, tell=tell, step=step, show=show, bytes=put, start=start, write=write,
-                  write_2=write_2, read=read, check=check, writes=writes, one_write=one_write)
-    rows = dict(native)
-    for name in ("rows", "order", "rulings", "limits", "lists"):
-        space = rows if name == "rows" else dict(native, record_of=rows["record_of"], accesses=rows["accesses"])
+                  write_2=write_2, read=read, check=check, writes=writes, one_write=one_write,
+                  one_assert=one_assert, fill=fill)
+    for name in ("rows", "order", "rulings", "limits", "lists", "largest"):
+        space = dict(native)
         with open(os.path.join(SOURCE, name + ".rt")) as source:
             code = translate(source.read())
         if "--show" in sys.argv:
             sys.stderr.write(code + "\n")
         exec(code, space)
+        native.update((f, space[f]) for f in ("record_of", "accesses", "node_step") if f in space)
         space["run"]()
     sys.stdout.write("".join(OUT))
 

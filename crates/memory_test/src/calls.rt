@@ -49,9 +49,11 @@ fn fresh(r: Record, words: &mut [u32], control: &[u32]) -> Done {
     Done { after, told }
 }
 
-// The node is the first word of the control; variable 8 is the only one that is true.
-fn evaluate(r: Record, words: &[u32], control: &[u32]) -> Done {
-    let x = r.evaluate(words, at(control, 0), 0x100);
+// The node is the first word of the control; the address are the assignment's lower and upper 32 bits.
+fn evaluate(r: Record, words: &[u32], control: &[u32], address: &[u32]) -> Done {
+    let low = at(address, 0) as u64;
+    let high = at(address, 1) as u64;
+    let x = r.evaluate(words, at(control, 0), high * 0x1_0000_0000 + low);
     let after = x.after;
     let answer = x.answer;
     let told = match answer {
@@ -174,7 +176,7 @@ pub fn ask(
 ) -> Done {
     match c {
         Call::Fresh => fresh(r, words, control),
-        Call::Evaluate => evaluate(r, words, control),
+        Call::Evaluate => evaluate(r, words, control, address),
         Call::Variable => variable(r, words, control),
         Call::Ite => ite(r, words, control, address),
         Call::Write => write(r, words, list, control, address, data),

@@ -5,7 +5,7 @@ use crate::rows::record_of;
 use crate::told::step;
 use memory::Record;
 
-fn node_step(
+pub fn node_step(
     c: Call,
     r: Record,
     words: &mut [u32],

@@ -1,6 +1,7 @@
 // Lists at their limits; n = 1 and w = 1, so that an entry is 6 words.
 use crate::calls::Call;
 use crate::lines::bytes;
+use crate::many::one_assert;
 use crate::many::one_write;
 use crate::many::writes;
 use crate::rows::record_of;
@@ -116,6 +117,18 @@ fn many_entries() {
     bytes(b"\n");
 }
 
+// An assert of 1 at 0, where X is, is the 4,096th entry. One of 0 has then no space: 8; one of 1 is kept and needs none.
+fn entered_last() {
+    let mut list = [1u32; 24582];
+    bytes(b"asserts, list of 24582 words\n");
+    one_assert(b"4095 entries, 1", 4095, [1, 0], &mut list);
+    one_assert(b"4096 entries, 0", 4096, [0, 1], &mut list);
+    one_assert(b"4096 entries, 1", 4096, [1, 0], &mut list);
+    bytes(b"the last words:");
+    show(&list, 24564, 24582);
+    bytes(b"\n");
+}
+
 fn fewer_entries() {
     let mut list = [1u32; 24575];
     one_less(&mut list);
@@ -135,6 +148,7 @@ pub fn run() {
     words_left();
     any_words();
     many_entries();
+    entered_last();
     fewer_entries();
     all_writes();
 }

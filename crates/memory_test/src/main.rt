@@ -4,6 +4,8 @@
 // The comments beside the calls say what is expected by hand, from the paper.
 mod bits;
 mod calls;
+mod filled;
+mod largest;
 mod limits;
 mod lines;
 mod lists;
@@ -20,4 +22,5 @@ fn main() {
     rulings::run();
     limits::run();
     lists::run();
+    largest::run();
 }

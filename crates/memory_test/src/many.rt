@@ -1,4 +1,4 @@
-// Writes to a list of many entries.
+// Writes and asserts to a list of many entries.
 use crate::calls::Call;
 use crate::calls::Done;
 use crate::calls::Told;
@@ -29,6 +29,42 @@ fn done(name: &[u8], d: Done) {
 // One write to a memory that has so many entries.
 pub fn one_write(name: &[u8], entries: u32, list: &mut [u32]) {
     done(name, write(record_of(1, 1, 2, entries), list));
+}
+
+// An assert of a bit at 0 to a memory that has so many entries, with room for 6 nodes.
+pub fn one_assert(name: &[u8], entries: u32, data: [u32; 2], list: &mut [u32]) {
+    let mut words: [u32; 24] = [
+        64,
+        0,
+        0,
+        64,
+        1,
+        1,
+        7,
+        7,
+        7,
+        7,
+        7,
+        7,
+        7,
+        7,
+        7,
+        7,
+        7,
+        7,
+        7,
+        7,
+        7,
+        7,
+        7,
+        7,
+    ];
+    let mut bit = data;
+    let r = record_of(1, 1, 2, entries);
+    done(
+        name,
+        ask(Call::Assert, r, &mut words, list, &[1], &[0, 1], &mut bit),
+    );
 }
 
 // So many writes, one after the other, and what the last one answers.

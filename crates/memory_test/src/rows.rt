@@ -223,11 +223,11 @@ fn row_5_ite() {
     on(b"h on index 0", Call::Ite, [1, 0], [1, 3], [0, 0]);
 }
 
-// Evaluate asks only that the node is below the count. Variable 8 is true and no other: node 3, index variable 0, is false, and node 2 true.
+// Evaluate asks only that the node is below the count. Under 256 variable 8 is true and no other: node 3, index variable 0, is false, and node 2 true.
 fn row_5_evaluate() {
-    on(b"the count", Call::Evaluate, [4, 0], [0, 0], [0, 0]);
-    on(b"node 3", Call::Evaluate, [3, 0], [0, 0], [0, 0]);
-    on(b"node 2", Call::Evaluate, [2, 0], [0, 0], [0, 0]);
+    on(b"the count", Call::Evaluate, [4, 0], [256, 0], [0, 0]);
+    on(b"node 3", Call::Evaluate, [3, 0], [256, 0], [0, 0]);
+    on(b"node 2", Call::Evaluate, [2, 0], [256, 0], [0, 0]);
 }
 
 // Row 5: 5 from each access that is lent the node.

@@ -230,7 +230,7 @@ pub fn step(
     address: &[u32],
     data: &mut [u32],
 ) -> Record {
-    let mut old_words = [0u32; 3072];
+    let mut old_words = [0u32; 49155];
     let mut old_list = [0u32; 512];
     let mut old_data = [0u32; 32];
     copy(&mut old_words, words);
