@@ -47,12 +47,6 @@ fn one_too_many(words: &mut [u32])
     each_call(b"16384 nodes\n", 16384, words);
 }
 
-fn last_words(words: &[u32]) {
-    bytes(b"the last words:");
-    show(words, 49146, 49155);
-    bytes(b"\n");
-}
-
 // Variable 8 is node 16,380, and node 16,381 has 13,006 where it is 0 and 13,007 where it is 1: (60 50 0) and (60 50 1).
 fn begin(words: &mut [u32]) -> Record
     requires { ⌜ length (now words) ≡ 49155 ⌝ }
@@ -67,7 +61,9 @@ fn begin(words: &mut [u32]) -> Record
 // Node 69 is Not of 50, and no node on variable 60 has it, so that Not of 16,381 needs three: it makes the last two, and for the third has 9, which clears them and leaves the three words past 16,384 nodes.
 fn three_more(r: Record, words: &mut [u32]) {
     node_step(Call::Ite, r, words, [16381, 0], [0, 1]);
-    last_words(words);
+    bytes(b"the last words:");
+    show(words, 49146, 49155);
+    bytes(b"\n");
 }
 
 // A read at address 0 needs two nodes, which are the last; after variable 9 there is room for one of them.
@@ -75,68 +71,21 @@ fn two_more(r: Record, words: &mut [u32]) {
     access_step(Call::Read, r, words);
     let r = node_step(Call::Variable, r, words, [9, 0], [0, 0]);
     access_step(Call::Read, r, words);
-    last_words(words);
 }
 
-fn value(name: &[u8], words: &mut [u32], node: u32, a: [u32; 2]) {
-    bytes(name);
-    bytes(b", ");
-    node_step(
-        Call::Evaluate,
-        record_of(1, 1, 16380, 0),
-        words,
-        [node, 0],
-        a,
-    );
-}
-
-// Node 2 is variable 63.
-fn highest(words: &mut [u32]) {
-    value(b"variable 63, 2^63", words, 2, [0, 0x8000_0000]);
-    value(
-        b"variable 63, 2^63 - 1",
-        words,
-        2,
-        [0xffff_ffff, 0x7fff_ffff],
-    );
-    value(
-        b"variable 63, 2^64 - 1",
-        words,
-        2,
-        [0xffff_ffff, 0xffff_ffff],
-    );
-}
-
-// Node 3 is its negation. Node 13,006 is 0 where 60 is 1, and where 60 and 61 are 0 it is variable 63.
-fn other_values(words: &mut [u32]) {
-    value(
-        b"its negation, 2^64 - 1",
-        words,
-        3,
-        [0xffff_ffff, 0xffff_ffff],
-    );
-    value(b"node 13006, 2^63", words, 13006, [0, 0x8000_0000]);
-    value(
-        b"node 13006, 2^64 - 1",
-        words,
-        13006,
-        [0xffff_ffff, 0xffff_ffff],
-    );
+// Node 2, variable 63, under 2^63, 2^63 - 1 and 2^64 - 1.
+fn values(r: Record, words: &mut [u32]) {
+    node_step(Call::Evaluate, r, words, [2, 0], [0, 0x8000_0000]);
+    node_step(Call::Evaluate, r, words, [2, 0], [0xffff_ffff, 0x7fff_ffff]);
+    node_step(Call::Evaluate, r, words, [2, 0], [0xffff_ffff, 0xffff_ffff]);
 }
 
 // The words from 49,140 on are 7 at first.
-fn last_nodes(words: &mut [u32])
-    requires { ⌜ length (now words) ≡ 49155 ⌝ }
-{
-    let r = begin(words);
-    three_more(r, words);
-    two_more(r, words);
-    highest(words);
-    other_values(words);
-}
-
 pub fn run() {
     let mut words = [7u32; 49155];
-    last_nodes(&mut words);
+    let r = begin(&mut words);
+    three_more(r, &mut words);
+    two_more(r, &mut words);
+    values(r, &mut words);
     one_too_many(&mut words);
 }
