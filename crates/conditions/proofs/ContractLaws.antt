@@ -20,11 +20,6 @@ sound-ready S f g h = record { standard = S .standard; first = f; second = g; th
 pub did : {w : List ℕ} {s : Store} {u : ℕ} {m : Meaning} {x : Outcome ℕ} {w′ t′ : List ℕ} {r : Built} → Builds w s (Stands u m) x → outcome w′ r ≡ x → Remembers t′ w′ (r .store) → Did s w′ t′ r x
 did X e M = record { is = e; sound = record { standard = rw (← e) at (X .standard); table = M }; more = rw (← e) at (X .extends .more); node = rw (← e) at (X .post .below) }
 
--- one building function after another
-pub did-next : {s : Store} {w w′ t t′ : List ℕ} {r r′ : Built} {x : Outcome ℕ} (k : ℕ → Build ℕ) → Did s w t r x → Did (r .store) w′ t′ r′ (k (r .node) w (r .store)) → Did s w′ t′ r′ (next x k)
-unfolding next
-did-next {x = x} k X Y = record { is = Y .is ∙ ap (λ (o : Outcome ℕ). k (o .answer) (o .words) (o .store)) (X .is); sound = Y .sound; more = omega (arith, X .more, Y .more); node = Y .node }
-
 -- a table of zeros is right in any store
 pub zeros-sound : {w : List ℕ} (s : Store) (n : ℕ) → Standard w (s .count) → Sound w (replicate n 0) s
 zeros-sound {w} s n g = record { standard = g; table = remembers-zeros n w s g }

@@ -20,11 +20,11 @@ pub use Rattle.conditions.proofs.AssignmentLaws.{change-same, change-ot
 pub use Rattle.conditions.proofs.ValueLaws.{value-0, value-1}
 -- a store becomes full at its capacity alone
 pub use Rattle.conditions.proofs.FullLaws.{standard-within, pure-fills, next-fills, each-fills, variable-fills, ite-fills, any-fills}
--- row 5, and node 1
-pub use Rattle.conditions.proofs.UserLaws.{user-is, is-user, user-stands, stands-user, stands-turns, stands-always, always-stands}
--- a building function after another, and the table to begin with
-pub use Rattle.conditions.proofs.ContractLaws.{did-next, zeros-sound}
+-- row 5
+pub use Rattle.conditions.proofs.UserLaws.{user-is, is-user, user-stands, stands-user, stands-turns}
+-- the table to begin with
+pub use Rattle.conditions.proofs.ContractLaws.{zeros-sound}
 -- rows 6 and 7
 pub use Rattle.conditions.proofs.MeetLaws.{neither-decides, together-decides}
 -- canonicity: the text of a condition, and one node for one meaning
-pub use Rattle.conditions.proofs.TextClaims.{text-exactly, node-same-text, one-node, text-agree}
+pub use Rattle.conditions.proofs.TextClaims.{text-exactly, node-same-text, one-node}

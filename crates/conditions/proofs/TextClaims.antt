@@ -44,7 +44,3 @@ module _ {w : List ℕ} {c : ℕ} (g : Standard w c) where
     -- and so are nodes that agree under every assignment
     pub one-node : (m ≡ n) ↔ Alike w m w n
     one-node = (λ e. same-text w w m n (ap (textOf w) e), λ e. node-same-text .1 (text-same g g m n h h′ e))
-
-  -- a text is the same in a store that grew
-  pub text-agree : {w′ : List ℕ} → Agree w w′ c → (n : ℕ) → n < c → textOf w′ n ≡ textOf w n
-  text-agree e n h = ap show (tree-agree g e n h)

@@ -37,10 +37,3 @@ module _ {w : List ℕ} {s : Store} {u n : ℕ} {m : Meaning} (g : Standard w (s
   -- what a node on variables from u up stands for turns on no variable below
   pub stands-turns : (φ ψ : ℕ → Bool) → ((v : ℕ) → u ≤ v → φ v ≡ ψ v) → m φ ≡ m ψ
   stands-turns φ ψ e = sym (N .is free φ) ∙ value-from g n u (N .below) (N .from) φ ψ e ∙ N .is free ψ
-
-  -- node 1 is the node of what always holds
-  pub stands-always : ((φ : ℕ → Bool) → m φ ≡ true) → n ≡ 1
-  stands-always e = node-same g n 1 (N .below) (omega (arith, g .two)) (λ φ. N .is free φ ∙ e φ ∙ sym (value-1 w φ))
-
-  pub always-stands : n ≡ 1 → (φ : ℕ → Bool) → m φ ≡ true
-  always-stands e φ = sym (N .is free φ) ∙ (rw e (value-1 w φ))

@@ -24,7 +24,7 @@ use Rattle.model.specs.Rows.{Row, firstRow, users, row1, row2, row3, row
 use Rattle.model.specs.Step.{State, Call, write, read, assert, check, evaluate, variable, ite, Answer, refused, place, filled, entered, kept, accepted, valued, node, isRefused, Result, refusal, turnedDown, cleared, orNine, begin, grown, withAsserted, withEntry, enter, act, unless, step, run, fresh, freshRows, freshUnless, freshRecord}
 use Rattle.model.specs.Claims.{pairAt, pairs}
 use Rattle.model.specs.Meanings.{entryValues}
-use Rattle.model.specs.Frames.{clears, wordsAfter, RefusalLeaves, RefusalNumber, Extended, SuccessLeaves, Valid, StaysValid, NoRow123, FreshValid, FreshNoRow123, enters, CountAtMost}
+use Rattle.model.specs.Frames.{clears, wordsAfter, RefusalLeaves, RefusalNumber, Extended, SuccessLeaves, Valid, StaysValid, NoRow123, FreshValid, FreshNoRow123, writeOrAssert, CountAtMost}
 use Rattle.model.proofs.MeansLaws.{Means, user-means}
 use Rattle.model.proofs.AccessLaws.{write-means, read-means, check-means, assert-means}
 use Rattle.model.proofs.RowLaws.{rows-hold, row1-n, length-pairs, users-halves}
@@ -84,7 +84,7 @@ record Leaves (c : Call) (s : State) (x : Result) : Type 0 where
   refuses : (k : ℕ) → x .answer ≡ refused k → Refuses c s (x .after) k
   extended : isRefused (x .answer) ≡ false → Extended s (x .after)
   valid : Valid s → Valid (x .after)
-  entries : x .after .rec .entries ≤ s .rec .entries + enters (x .answer)
+  entries : x .after .rec .entries ≤ s .rec .entries + writeOrAssert (x .answer)
 
 -- any assignment would do: a node that means something is below the count and on no index variable
 abbrev σ : ℕ → Bool
@@ -120,7 +120,7 @@ module _ (c : Call) (s : State) where
   unfolding orNine
   nine-leaves x k f = split (x .store .full) (λ e. rw e (refused-leaves 9 (omega arith) (omega arith) (λ H. omega arith))) (λ e. rw e (f e))
 
-  done-leaves : (x : Result) → isRefused (x .answer) ≡ false → Extended s (x .after) → (Valid s → Valid (x .after)) → x .after .rec .entries ≤ s .rec .entries + enters (x .answer) → Leaves c s x
+  done-leaves : (x : Result) → isRefused (x .answer) ≡ false → Extended s (x .after) → (Valid s → Valid (x .after)) → x .after .rec .entries ≤ s .rec .entries + writeOrAssert (x .answer) → Leaves c s x
   done-leaves x f E H l = record { refuses = λ k e. absurd (true≢false (sym (ap isRefused e) ∙ f)); extended = λ e. E; valid = H; entries = l }
 
   module _ (x : Answer) (f : isRefused x ≡ false) (w : List ℕ) (n : ℕ) (E : Extends (s .words) (s .rec .count) w n) (S : Standard w n) where
@@ -128,7 +128,7 @@ module _ (c : Call) (s : State) where
     conditions-leave v u A C = done-leaves (record { answer = x; after = withConditions s w n v u }) f (conditions-extended s w n v u E) (conditions-valid s w n v u (user-grows E) S A C) (omega arith)
 
     -- an entry's Write, and one entry more where the store is not full
-    entry-leaves : enters x ≡ 1 → (v : ℕ) → (User s (s .rec .asserted) → isUser w n v ≡ true) → (h l : ℕ) → isUser w n h ≡ true → isUser w n l ≡ true → (a d : List ℕ) → length a ≡ 2 * s .rec .n → length d ≡ 2 * s .rec .w
+    entry-leaves : writeOrAssert x ≡ 1 → (v : ℕ) → (User s (s .rec .asserted) → isUser w n v ≡ true) → (h l : ℕ) → isUser w n h ≡ true → isUser w n l ≡ true → (a d : List ℕ) → length a ≡ 2 * s .rec .n → length d ≡ 2 * s .rec .w
         → users (s .rec) (s .words) a ≡ true → users (s .rec) (s .words) d ≡ true → s .rec .entries < listCapacity (s .rec) (s .list)
         → Leaves c s (orNine s (Write (s .rec .n) h l a w (record { count = n; full = false })) (λ m w n. record { answer = x; after = withEntry (withAsserted s w n v) m a d }))
     unfolding listCapacity

@@ -34,7 +34,7 @@ abbrev pub wordsAfter : Bool → State → List ℕ
 wordsAfter true s = clearOf (s .words) (s .rec .count)
 wordsAfter false s = s .words
 
--- "A refusal .. returns its number; record, nodes below the count, list and answer are untouched."
+-- "A refusal .. returns its number; record, nodes below the count, list .. are untouched." (That a refused read leaves the answer words is `answerWords`.)
 unfoldable pub RefusalLeaves : Type 0
 RefusalLeaves = (c : Call) (s : State) (k : ℕ) → step c s .answer ≡ refused k → step c s .after ≡ record { rec = s .rec; words = wordsAfter (clears c k) s; list = s .list }
 
@@ -125,7 +125,7 @@ pub record Valid (s : State) : Type 0 where
 unfoldable pub StaysValid : Type 0
 StaysValid = (c : Call) (s : State) → Valid s → Valid (step c s .after)
 
--- so that in a run "no call .. meets rows 1 to 3"
+-- so that in a run no call meets rows 1 to 3
 unfoldable pub NoRow123 : Type 0
 NoRow123 = (cs : List Call) (c : Call) (s : State) (k : ℕ) → Valid s → step c (run cs s) .answer ≡ refused k → 4 ≤ k
 
@@ -139,19 +139,19 @@ FreshNoRow123 = (given : Record) (n w : ℕ) (ws list : List ℕ) → fresh give
     → step c (run cs (record { rec = fresh given n w ws .rec; words = fresh given n w ws .words; list = list })) .answer ≡ refused k → 4 ≤ k
 
 -- one for an accepted write and for an accepted assert, by its answer
-abbrev pub enters : Answer → ℕ
-enters (refused k) = 0
-enters (place k) = 1
-enters (filled r) = 0
-enters entered = 1
-enters kept = 1
-enters accepted = 0
-enters (valued b) = 0
-enters (node n) = 0
+abbrev pub writeOrAssert : Answer → ℕ
+writeOrAssert (refused k) = 0
+writeOrAssert (place k) = 1
+writeOrAssert (filled r) = 0
+writeOrAssert entered = 1
+writeOrAssert kept = 1
+writeOrAssert accepted = 0
+writeOrAssert (valued b) = 0
+writeOrAssert (node n) = 0
 
 abbrev pub accepts : List Call → State → ℕ
 accepts [] s = 0
-accepts (c ∷ cs) s = enters (step c s .answer) + accepts cs (step c s .after)
+accepts (c ∷ cs) s = writeOrAssert (step c s .answer) + accepts cs (step c s .after)
 
 -- "The entry count is at most accepted writes plus accepted asserts."
 unfoldable pub CountAtMost : Type 0

@@ -73,14 +73,3 @@ module _ (file : List ℕ) (at n w : ℕ) where
   -- the same of the function's answer
   pub access-here : {r : Access} {kind : Kind} {from next : ℕ} → r ≡ Here kind from next → foundOf r ≡ accessAt file at n w → Lies file at n w kind from next
   access-here e f = access-lies (ap foundOf (sym e) ∙ f)
-
-  -- the rows that can refuse one
-  pub access-refusal : {k : ℕ} → refused k ≡ accessAt file at n w → (k ≡ 10) ⊎ (k ≡ 11)
-  unfolding accessAt
-  access-refusal {k} e = go (firstRow (accessRows file at n w)) refl e
-    where
-      go : (r : ℕ) → firstRow (accessRows file at n w) ≡ r → refused k ≡ foundUnless r (found (kindAt file at) (at + 1) (endOf file at n w)) → (k ≡ 10) ⊎ (k ≡ 11)
-      go zero q e = let z : _≡_ {A = ℕ} 0 1 = cc in absurd (omega arith)
-      go (suc r) q e =
-          let g : k ≡ suc r = cc in
-          rw g (rows-number (λ (i : ℕ). (i ≡ 10) ⊎ (i ≡ 11)) (accessRows file at n w) (inl refl, (inr refl, (inl refl, tt))) q)

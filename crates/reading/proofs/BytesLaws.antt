@@ -23,35 +23,6 @@ module _ (file : List ℕ) where
       let e : at + 2 + 2 * k ≡ at + 2 * suc k = omega arith in
       ap (λ (l : List ℕ). numberAt file at ∷ l) (numbers-more (at + 2) k ∙ ap (λ (i : ℕ). numbersAt file (at + 2) k ++ numberAt file i ∷ []) e)
 
-  -- the number at an index, and a part of the numbers
-  pub numbers-get : (at k i : ℕ) → i < k → getD (numbersAt file at k) i 0 ≡ numberAt file (at + 2 * i)
-  unfolding numbersAt
-  numbers-get at zero i h = absurd (omega arith)
-  numbers-get at (suc k) zero h = let e : at ≡ at + 2 * 0 = omega arith in ap (numberAt file) e
-  numbers-get at (suc k) (suc i) h = let e : at + 2 + 2 * i ≡ at + 2 * suc i = omega arith in numbers-get (at + 2) k i (omega arith) ∙ ap (numberAt file) e
-
-  numbers-drop : (at a k : ℕ) → drop a (numbersAt file at (a + k)) ≡ numbersAt file (at + 2 * a) k
-  unfolding numbersAt
-  numbers-drop at zero k = let e : at ≡ at + 2 * 0 = omega arith in let f : 0 + k ≡ k = omega arith in rw f (ap (λ (i : ℕ). numbersAt file i k) e)
-  numbers-drop at (suc a) k =
-      let e : at + 2 + 2 * a ≡ at + 2 * suc a = omega arith in
-      let f : suc a + k ≡ suc (a + k) = omega arith in
-      rw f (numbers-drop (at + 2) a k ∙ ap (λ (i : ℕ). numbersAt file i k) e)
-
-  numbers-take : (at k more : ℕ) → take k (numbersAt file at (k + more)) ≡ numbersAt file at k
-  unfolding numbersAt
-  numbers-take at zero more = refl
-  numbers-take at (suc k) more =
-      let f : suc k + more ≡ suc (k + more) = omega arith in
-      rw f (ap (λ (l : List ℕ). numberAt file at ∷ l) (numbers-take (at + 2) k more))
-
-  pub numbers-part : (at k a e : ℕ) → a ≤ e → e ≤ k → part (numbersAt file at k) a e ≡ numbersAt file (at + 2 * a) (e - a)
-  numbers-part at k a e h g =
-      let f : k ≡ a + (e - a + (k - e)) = omega arith in
-      ap (λ (t : ℕ). take (e - a) (drop a (numbersAt file at t))) f
-      ∙ ap (take (e - a)) (numbers-drop at a (e - a + (k - e)))
-      ∙ numbers-take (at + 2 * a) (e - a) (k - e)
-
   -- a slice whose first i words are filled
   abbrev pub filledTo : ℕ → ℕ → List ℕ → List ℕ
   filledTo at i l = numbersAt file at i ++ drop i l

@@ -237,16 +237,3 @@ module _ {file words ws : List ℕ} {n w count accesses at : ℕ} (R : SectionsR
         two = is-standard ws count S;
         three = is-third firstState (record { fits = omega arith; words = λ k h. absurd (omega arith); asserted = u; checked = u });
       }
-
--- the rows that can refuse them
-pub sections-refusal : (file words : List ℕ) {ws : List ℕ} {k : ℕ} → (ws, refused k) ≡ sections file words → (k ≡ 10) ⊎ (k ≡ 1) ⊎ (k ≡ 2)
-unfolding sections
-sections-refusal file words {ws} {k} e = go (firstRow (earlyRows file words ++ lateRows file words)) refl (ap (λ (x : List ℕ × Sections). x .1) e)
-  where
-    go : (r : ℕ) → firstRow (earlyRows file words ++ lateRows file words) ≡ r
-        → refused k ≡ sectionsUnless r (ready (getD file 0 0) (getD file 1 0) (nodesIn file + 2) (numberAt file (4 + 5 * nodesIn file)) (4 + 5 * nodesIn file + 2))
-        → (k ≡ 10) ⊎ (k ≡ 1) ⊎ (k ≡ 2)
-    go zero q f = let z : _≡_ {A = ℕ} 0 1 = cc in absurd (omega arith)
-    go (suc r) q f =
-        let g : k ≡ suc r = cc in
-        rw g (rows-number (λ (i : ℕ). (i ≡ 10) ⊎ (i ≡ 1) ⊎ (i ≡ 2)) (earlyRows file words ++ lateRows file words) (inl refl, (inr (inl refl), (inl refl, (inl refl, (inr (inr refl), (inr (inr refl), (inl refl, tt))))))) q)
