@@ -17,3 +17,5 @@ pub mod Demand3
 pub mod RulingLaws
 pub mod StayLaws
 pub mod NineLaws
+pub mod TableLaws
+pub mod OrderLaws

@@ -9,3 +9,5 @@ pub mod Claims
 pub mod Meanings
 pub mod Frames
 pub mod Rulings
+pub mod Table
+pub mod Orders
