@@ -5,74 +5,69 @@ use mathlib.Core.Bool.{Bool, true, false, cond, _&&_, not, true≢false}
 use mathlib.Core.List.{List, []}
 use Prim.Native.Nat.{ℕ, zero, suc, _^_, _<_}
 use native.Mathlib.Omega.{arith}
-use lib.Dec.{T, eqb, leb}
-use borrow.Author.Tests.{eqb-false, leb-true}
+use lib.Dec.{T, eqb}
+use borrow.Author.Tests.{eqb-false}
 use Rattle.nodes.specs.Standard.{Standard}
-use Rattle.nodes.proofs.BoolLaws.{split, and-both, iff-same}
+use Rattle.nodes.proofs.BoolLaws.{split, iff-same}
 use Rattle.conditions.specs.declared.Store.{Store}
 use Rattle.conditions.specs.Build.{Outcome}
 use Rattle.conditions.specs.Make.{Variable}
 use Rattle.conditions.specs.Ite.{Ite}
 use Rattle.conditions.specs.Value.{value}
 use Rattle.conditions.specs.Assignment.{bitAt}
-use Rattle.conditions.specs.User.{isUser}
 use Rattle.conditions.specs.Meet.{neither}
 use Rattle.conditions.specs.Meaning.{Builds}
-use Rattle.conditions.proofs.Promises.{standard-is, user-stands, ite-builds, variable-builds, neither-decides, value-1, one-node}
+use Rattle.conditions.proofs.Promises.{ite-builds, variable-builds, neither-decides, value-1, one-node}
 use Rattle.model.specs.Pairs.{Pair, admit}
 use Rattle.model.specs.Record.{Record}
-use Rattle.model.specs.Access.{Marks, Write, Asserted, Assert}
-use Rattle.model.specs.Rows.{row2, row3, row8, writeRows, readRows, assertRows, checkRows, variableRows, iteRows}
-use Rattle.model.specs.Step.{State, Call, write, read, assert, check, evaluate, variable, ite, place, filled, entered, kept, accepted, valued, node, Result, isRefused, refusal, orNine, begin, withAsserted, withEntry, enter, grown, act, unless, step}
+use Rattle.model.specs.Access.{Marks, Write, Asserted}
+use Rattle.model.specs.Rows.{row8}
+use Rattle.model.specs.Step.{State, write, read, assert, check, evaluate, variable, ite, Call, access, nodeCall, Given, place, filled, entered, kept, accepted, valued, node, done, isRefused, Result, refusal, Finish, full, short, gives, closed, unlessFull, begin, grown, withEntry, withAssertCondition, assertFirst, enter, finishAccess, finishNode, finish, unlessRefused, step}
 use Rattle.model.specs.Published.{answer, assertHolds, checkHolds, keeps, control}
 use Rattle.model.specs.Claims.{pairAt}
 use Rattle.model.specs.Meanings.{entryValues, addressArgument, wordArgument, Enters, Demand2, EnteredWhere}
+use Rattle.model.specs.Table.{MemoryFacts}
 use Rattle.model.proofs.PairLaws.{T→eq, eq→T}
 use Rattle.model.proofs.MeansLaws.{Means, up, near-self}
 use Rattle.model.proofs.AccessLaws.{AssertedMean}
-use Rattle.model.proofs.RowLaws.{rows-hold}
-use Rattle.model.proofs.StepLaws.{isKept, Holds, Follows, step-follows, free-store, pair-is, and3, assert-builds, enter-builds}
-use Rattle.model.proofs.ThirdLaws.{third-is}
+use Rattle.model.proofs.FactLaws.{write-facts, read-facts, check-facts, assert-facts, variable-facts, ite-facts}
+use Rattle.model.proofs.StepLaws.{isKept, Holds, Follows, step-follows, free-store, pair-is, assert-builds, enter-builds}
 use Rattle.model.proofs.EntryLaws.{held, holds-values, holds-enters, holds-stays}
 
--- a call that is not refused meets no row, and acts
-acts : (c : Call) (s : State) → isRefused (step c s .answer) ≡ false → (refusal c s ≡ 0) × (step c s ≡ act c s)
+-- a call that is not refused meets no row, and is what it comes to
+acts : (c : Call) (s : State) → isRefused (step c s .answer) ≡ false → (refusal c s ≡ 0) × (step c s ≡ closed s (finish c s))
 unfolding step
 acts c s q = go (refusal c s) refl q
   where
-    go : (n : ℕ) → refusal c s ≡ n → isRefused (unless n s (act c s) .answer) ≡ false → (refusal c s ≡ 0) × (unless (refusal c s) s (act c s) ≡ act c s)
+    go : (n : ℕ) → refusal c s ≡ n → isRefused (unlessRefused n s (closed s (finish c s)) .answer) ≡ false → (refusal c s ≡ 0) × (unlessRefused (refusal c s) s (closed s (finish c s)) ≡ closed s (finish c s))
     go zero e q = (e, rw e)
     go (suc n) e q = absurd (true≢false q)
 
 -- nor does its program need a node past capacity
-free : {A : Type 0} (s : State) (y : Outcome A) (k : A → List ℕ → ℕ → Result) (x : Result) → x ≡ orNine s y k → isRefused (x .answer) ≡ false
-    → (y .store .full ≡ false) × (x ≡ k (y .answer) (y .words) (y .store .count))
-unfolding orNine
+free : {A : Type 0} (s : State) (y : Outcome A) (k : A → List ℕ → ℕ → Finish) (x : Result) → x ≡ closed s (unlessFull y k) → isRefused (x .answer) ≡ false
+    → (y .store .full ≡ false) × (x ≡ closed s (k (y .answer) (y .words) (y .store .count)))
+unfolding unlessFull closed
 free s y k x e q = split (y .store .full) (λ t. absurd (true≢false (rw (e, t) at q))) (λ t. (t, rw t at e))
 
--- what an assert builds before its entry
-abbrev asserted : State → ℕ → List ℕ → List ℕ → Outcome Asserted
-asserted s b a d = Assert (s .rec) (s .list) b a d (s .words) (begin (s .rec))
-
 -- such an assert
-module _ (s : State) (b : ℕ) (a d : List ℕ) (n : isRefused (step (assert b a d) s .answer) ≡ false) where
+module _ (s : State) (b : ℕ) (a d : List ℕ) (n : isRefused (step (access (assert b a d)) s .answer) ≡ false) where
   abbrev x : Outcome Asserted
-  x = asserted s b a d
+  x = assertFirst b a d s
 
   -- its Write, where it is entered
   abbrev y : Outcome Marks
   y = Write (s .rec .n) b (x .answer .unless) a (x .words) (record { count = x .store .count; full = false })
 
-  asserts : (x .store .full ≡ false) × (step (assert b a d) s ≡ enter s b a d (x .answer) (x .words) (x .store .count))
-  unfolding act
-  asserts = free s x (enter s b a d) _ (acts (assert b a d) s n .1) n
+  asserts : (x .store .full ≡ false) × (step (access (assert b a d)) s ≡ closed s (enter s b a d (x .answer) (x .words) (x .store .count)))
+  unfolding finishAccess
+  asserts = free s x (enter s b a d) _ (acts (access (assert b a d)) s n .1) n
 
   -- it is kept, or entered by its Write
-  kept-or-entered : {C : Type 0} → (step (assert b a d) s ≡ record { answer = kept; after = withAsserted s (x .words) (x .store .count) (x .answer .condition) } → C)
+  kept-or-entered : {C : Type 0} → (step (access (assert b a d)) s ≡ record { answer = done kept; after = withAssertCondition (grown s (x .words) (x .store .count)) (x .answer .condition) } → C)
       → (eqb (x .answer .keep) 1 ≡ false → y .store .full ≡ false
-      → step (assert b a d) s ≡ record { answer = entered; after = withEntry (withAsserted s (y .words) (y .store .count) (x .answer .condition)) (y .answer) a d } → C)
+      → step (access (assert b a d)) s ≡ record { answer = done entered; after = withEntry (withAssertCondition (grown s (y .words) (y .store .count)) (x .answer .condition)) (y .answer) a d } → C)
       → C
-  unfolding enter
+  unfolding enter closed
   kept-or-entered f g =
       let e = asserts .1 in
       split (eqb (x .answer .keep) 1) (λ t. f (rw t at e))
@@ -95,70 +90,65 @@ module _ (a : ℕ) (small : a < 2 ^ 64) (s : State) where
   abbrev r : Record
   r = s .rec
 
-  values-held : row2 r (s .words) ≡ true → row3 r (s .words) (s .list) ≡ true → Holds φ s (held φ s)
-  values-held e t = holds-values φ s (standard-is (s .words) (r .count) e) (third-is s t)
+  values-held : MemoryFacts s → Holds φ s (held φ s)
+  values-held M = holds-values φ s M
 
-  write-enters : (c x d : List ℕ) (k : ℕ) → step (write c x d) s .answer ≡ place k → (k ≡ r .entries) × Enters φ s (step (write c x d) s .after) (pairAt φ (s .words) c 0) x d
-  unfolding act
+  write-enters : (c x d : List ℕ) (k : ℕ) → step (access (write c x d)) s .answer ≡ done (place k) → (k ≡ r .entries) × Enters φ s (step (access (write c x d)) s .after) (pairAt φ (s .words) c 0) x d
+  unfolding finishAccess finishNode closed
   write-enters c x d k q =
-      let n : isRefused (step (write c x d) s .answer) ≡ false = ap isRefused q in
-      let A = acts (write c x d) s n in
-      let Q = rows-hold (writeRows r (s .words) (s .list) c x d) refl (A .0) in
-      let F = step-follows a small s (held φ s) (values-held (Q .1 .0) (Q .1 .1 .0)) (write c x d) in
-      let e : place k ≡ place (r .entries) = sym q ∙ ap (λ (z : Result). z .answer) (free s _ _ _ (A .1) n .1) in
+      let n : isRefused (step (access (write c x d)) s .answer) ≡ false = ap isRefused q in
+      let A = acts (access (write c x d)) s n in
+      let F = step-follows a small s (held φ s) (values-held (write-facts s c x d (A .0) .memory)) (access (write c x d)) in
+      let e : done (place k) ≡ done (place (r .entries)) = sym q ∙ ap (λ (z : Result). z .answer) (free s _ _ _ (A .1) n .1) in
       (cc, holds-enters φ s _ (pairAt φ (s .words) c 0) x d (F .same-w) (rw q at (F .holds)))
 
-  read-fills : (e x out ws : List ℕ) → step (read e x out) s .answer ≡ filled ws → (i : ℕ) → i < r .w
-      → pairAt φ (step (read e x out) s .after .words) ws i ≡ answer (r .n) (entryValues φ s) (pairAt φ (s .words) e 0) (addressArgument φ s x) i
+  read-fills : (e x out ws : List ℕ) → step (access (read e x out)) s .answer ≡ done (filled ws) → (i : ℕ) → i < r .w
+      → pairAt φ (step (access (read e x out)) s .after .words) ws i ≡ answer (r .n) (entryValues φ s) (pairAt φ (s .words) e 0) (addressArgument φ s x) i
   read-fills e x out ws q i l =
-      let Q = rows-hold (readRows r (s .words) (s .list) e x out) refl (acts (read e x out) s (ap isRefused q) .0) in
-      let F = step-follows a small s (held φ s) (values-held (Q .1 .0) (Q .1 .1 .0)) (read e x out) in
-      same-admit _ _ (λ b. rw q at (F .bits (λ j. false) [] i l b))
+      let F = step-follows a small s (held φ s) (values-held (read-facts s e x out (acts (access (read e x out)) s (ap isRefused q) .0) .memory)) (access (read e x out)) in
+      same-admit _ _ (λ b. rw q at (F .bits i l b))
 
-  read-stays : (e x out ws : List ℕ) → step (read e x out) s .answer ≡ filled ws → entryValues φ (step (read e x out) s .after) ≡ entryValues φ s
+  read-stays : (e x out ws : List ℕ) → step (access (read e x out)) s .answer ≡ done (filled ws) → entryValues φ (step (access (read e x out)) s .after) ≡ entryValues φ s
   read-stays e x out ws q =
-      let Q = rows-hold (readRows r (s .words) (s .list) e x out) refl (acts (read e x out) s (ap isRefused q) .0) in
-      let F = step-follows a small s (held φ s) (values-held (Q .1 .0) (Q .1 .1 .0)) (read e x out) in
+      let F = step-follows a small s (held φ s) (values-held (read-facts s e x out (acts (access (read e x out)) s (ap isRefused q) .0) .memory)) (access (read e x out)) in
       holds-stays φ s _ _ (F .same-w) (rw q at (F .holds))
 
-  check-stays : (b : ℕ) (x d : List ℕ) → step (check b x d) s .answer ≡ accepted → entryValues φ (step (check b x d) s .after) ≡ entryValues φ s
+  check-stays : (b : ℕ) (x d : List ℕ) → step (access (check b x d)) s .answer ≡ done accepted → entryValues φ (step (access (check b x d)) s .after) ≡ entryValues φ s
   check-stays b x d q =
-      let Q = rows-hold (checkRows r (s .words) (s .list) b x d) refl (acts (check b x d) s (ap isRefused q) .0) in
-      let F = step-follows a small s (held φ s) (values-held (Q .1 .0) (Q .1 .1 .0)) (check b x d) in
+      let F = step-follows a small s (held φ s) (values-held (check-facts s b x d (acts (access (check b x d)) s (ap isRefused q) .0) .memory)) (access (check b x d)) in
       holds-stays φ s _ _ (F .same-w) (rw q at (F .holds))
 
-  check-condition : (b : ℕ) (x d : List ℕ) → step (check b x d) s .answer ≡ accepted
-      → value (step (check b x d) s .after .words) φ (step (check b x d) s .after .rec .checked)
+  check-condition : (b : ℕ) (x d : List ℕ) → step (access (check b x d)) s .answer ≡ done accepted
+      → value (step (access (check b x d)) s .after .words) φ (step (access (check b x d)) s .after .rec .checked)
       ≡ (value (s .words) φ (r .checked) && checkHolds (r .n) (r .w) (entryValues φ s) (value (s .words) φ b) (addressArgument φ s x) (wordArgument φ s d))
   check-condition b x d q =
-      let Q = rows-hold (checkRows r (s .words) (s .list) b x d) refl (acts (check b x d) s (ap isRefused q) .0) in
-      let F = step-follows a small s (held φ s) (values-held (Q .1 .0) (Q .1 .1 .0)) (check b x d) in
+      let F = step-follows a small s (held φ s) (values-held (check-facts s b x d (acts (access (check b x d)) s (ap isRefused q) .0) .memory)) (access (check b x d)) in
       let H : Holds φ _ _ = rw q at (F .holds) in
       H .checked .is refl φ (near-self φ)
 
   -- an assert that is not refused
-  module _ (b : ℕ) (x d : List ℕ) (n : isRefused (step (assert b x d) s .answer) ≡ false) where
+  module _ (b : ℕ) (x d : List ℕ) (n : isRefused (step (access (assert b x d)) s .answer) ≡ false) where
     abbrev keeping : Bool
     keeping = keeps (r .n) (r .w) (entryValues φ s) (value (s .words) φ b) (addressArgument φ s x) (wordArgument φ s d)
 
     abbrev condition : Bool
     condition = value (s .words) φ (r .asserted) && assertHolds (r .n) (r .w) (entryValues φ s) (value (s .words) φ b) (addressArgument φ s x) (wordArgument φ s d)
 
-    no-row : refusal (assert b x d) s ≡ 0
-    no-row = acts (assert b x d) s n .0
+    no-row : refusal (access (assert b x d)) s ≡ 0
+    no-row = acts (access (assert b x d)) s n .0
 
     assert-holds : Holds φ s (held φ s)
-    assert-holds = let Q = rows-hold (assertRows r (s .words) (s .list) b x d) refl no-row in values-held (Q .1 .0) (Q .1 .1 .0)
+    assert-holds = values-held (assert-facts s b x d no-row .compared .memory)
 
-    assert-follows : Follows φ s (held φ s) (assert b x d) (step (assert b x d) s)
-    assert-follows = step-follows a small s (held φ s) assert-holds (assert b x d)
+    assert-follows : Follows φ s (held φ s) (access (assert b x d)) (step (access (assert b x d)) s)
+    assert-follows = step-follows a small s (held φ s) assert-holds (access (assert b x d))
 
-    assert-means : Builds (s .words) (begin r) (AssertedMean φ condition (not (value (s .words) φ b)) keeping) (asserted s b x d)
+    assert-means : Builds (s .words) (begin r) (AssertedMean φ condition (not (value (s .words) φ b)) keeping) (assertFirst b x d s)
     assert-means = assert-builds a small s (held φ s) assert-holds b x d no-row
 
-    assert-condition : value (step (assert b x d) s .after .words) φ (step (assert b x d) s .after .rec .asserted) ≡ condition
+    assert-condition : value (step (access (assert b x d)) s .after .words) φ (step (access (assert b x d)) s .after .rec .asserted) ≡ condition
     assert-condition =
-        let y = asserted s b x d in
+        let y = assertFirst b x d s in
         let f = asserts s b x d n .0 in
         let M = assert-means .post .condition in
         let N = free-store (λ (z : Store). Means φ 8 (λ τ. condition) (y .words) z (y .answer .condition)) (y .store) f M in
@@ -166,34 +156,33 @@ module _ (a : ℕ) (small : a < 2 ^ 64) (s : State) where
         (λ t g e. rw e (up (assert-means .standard) (enter-builds a small s (held φ s) assert-holds b x d no-row f) N .is g φ (near-self φ)))
 
   -- a call that answers the node of its program
-  node-value : (c : Call) (x : Outcome ℕ) (μ : Bool) → act c s ≡ orNine s x (λ n w k. record { answer = node n; after = grown s w k }) → (n : ℕ) → step c s .answer ≡ node n
+  node-value : (c : Call) (x : Outcome ℕ) (μ : Bool) → finish c s ≡ unlessFull x (λ n w k. gives (node n) (grown s w k)) → (n : ℕ) → step c s .answer ≡ done (node n)
       → (x .store .full ≡ false → value (x .words) φ (x .answer) ≡ μ) → value (step c s .after .words) φ n ≡ μ
+  unfolding closed
   node-value c x μ e n q f =
-      let B = free s x _ _ (acts c s (ap isRefused q) .1 ∙ e) (ap isRefused q) in
-      let z : node n ≡ node (x .answer) = sym q ∙ ap (λ (y : Result). y .answer) (B .1) in
+      let B = free s x _ _ (acts c s (ap isRefused q) .1 ∙ ap (closed s) e) (ap isRefused q) in
+      let z : done (node n) ≡ done (node (x .answer)) = sym q ∙ ap (λ (y : Result). y .answer) (B .1) in
       let same : n ≡ x .answer = cc in
       rw (B .1, same) (f (B .0))
 
-  variable-node : (v n : ℕ) → step (variable v) s .answer ≡ node n → value (step (variable v) s .after .words) φ n ≡ φ v
-  unfolding act
+  variable-node : (v n : ℕ) → step (nodeCall (variable v)) s .answer ≡ done (node n) → value (step (nodeCall (variable v)) s .after .words) φ n ≡ φ v
+  unfolding finishAccess finishNode closed
   variable-node v n q =
-      let Q = rows-hold (variableRows r (s .words) v) refl (acts (variable v) s (ap isRefused q) .0) in
-      let X = variable-builds {s = begin r} {v = v} (standard-is (s .words) (r .count) (Q .1 .0)) (omega (arith, leb-true v 63 (and-both (leb 8 v) (leb v 63) (Q .1 .1 .0) .1))) in
-      node-value (variable v) (Variable v (s .words) (begin r)) (φ v) refl n q (λ f. X .post .is f φ)
+      let F = variable-facts s v (acts (nodeCall (variable v)) s (ap isRefused q) .0) in
+      let X = variable-builds {s = begin r} {v = v} (F .standard) (omega (arith, F .named .1)) in
+      node-value (nodeCall (variable v)) (Variable v (s .words) (begin r)) (φ v) refl n q (λ f. X .post .is f φ)
 
-  ite-node : (f g h n : ℕ) → step (ite f g h) s .answer ≡ node n → value (step (ite f g h) s .after .words) φ n ≡ cond (value (s .words) φ f) (value (s .words) φ g) (value (s .words) φ h)
-  unfolding act
+  ite-node : (f g h n : ℕ) → step (nodeCall (ite f g h)) s .answer ≡ done (node n) → value (step (nodeCall (ite f g h)) s .after .words) φ n ≡ cond (value (s .words) φ f) (value (s .words) φ g) (value (s .words) φ h)
+  unfolding finishAccess finishNode closed
   ite-node f g h n q =
-      let Q = rows-hold (iteRows r (s .words) f g h) refl (acts (ite f g h) s (ap isRefused q) .0) in
-      let U = isUser (s .words) (r .count) in
-      let u = and3 (U f) (U g) (U h) (Q .1 .1 .0) in
-      let X = ite-builds (standard-is (s .words) (r .count) (Q .1 .0)) (user-stands {s = begin r} (u .0)) (user-stands {s = begin r} (u .1)) (user-stands {s = begin r} (u .2)) in
-      node-value (ite f g h) (Ite f g h (s .words) (begin r)) _ refl n q (λ z. X .post .is z φ)
+      let F = ite-facts s f g h (acts (nodeCall (ite f g h)) s (ap isRefused q) .0) in
+      let X = ite-builds (F .standard) (F .named .0) (F .named .1) (F .named .2) in
+      node-value (nodeCall (ite f g h)) (Ite f g h (s .words) (begin r)) _ refl n q (λ z. X .post .is z φ)
 
-evaluates : (s : State) (f a : ℕ) (v : Bool) → step (evaluate f a) s .answer ≡ valued v → v ≡ value (s .words) (bitAt a) f
-unfolding act
+evaluates : (s : State) (f a : ℕ) (v : Bool) → step (nodeCall (evaluate f a)) s .answer ≡ done (valued v) → v ≡ value (s .words) (bitAt a) f
+unfolding finishAccess finishNode closed
 evaluates s f a v q =
-    let e : valued v ≡ valued (value (s .words) (bitAt a) f) = sym q ∙ ap (λ (y : Result). y .answer) (acts (evaluate f a) s (ap isRefused q) .1) in
+    let e : done (valued v) ≡ done (valued (value (s .words) (bitAt a) f)) = sym q ∙ ap (λ (y : Result). y .answer) (acts (nodeCall (evaluate f a)) s (ap isRefused q) .1) in
     cc
 
 pub demand2 : Demand2
@@ -203,7 +192,7 @@ demand2 s a small =
       write-enters = write-enters a small s;
       read-fills = read-fills a small s;
       assert-condition = assert-condition a small s;
-      assert-kept = λ b x d q. T→eq _ ((rw q at (assert-follows a small s b x d (ap isRefused q) .accepted)) .3);
+      assert-kept = λ b x d q. T→eq _ ((rw q at (assert-follows a small s b x d (ap isRefused q) .keeping)) refl);
       read-stays = read-stays a small s;
       kept-stays = λ b x d q.
           let F = assert-follows a small s b x d (ap isRefused q) in
@@ -231,9 +220,9 @@ somewhere-false {w} S n below other =
 pub entered-where : EnteredWhere
 unfolding EnteredWhere
 entered-where s b x d q =
-    let n : isRefused (step (assert b x d) s .answer) ≡ false = ap isRefused q in
+    let n : isRefused (step (access (assert b x d)) s .answer) ≡ false = ap isRefused q in
     let X = assert-means 0 (omega arith) s b x d n in
     let other = kept-or-entered s b x d n (λ e. absurd (true≢false (ap isKept (rw e at q)))) (λ t f e. eqb-false _ _ t) in
-    let m = somewhere-false (X .standard) (asserted s b x d .answer .keep) (X .post .keep .below) other in
+    let m = somewhere-false (X .standard) (assertFirst b x d s .answer .keep) (X .post .keep .below) other in
     let K = assert-means (m .0) (m .1) s b x d n .post .keep in
     (m .0, m .1, sym (K .is (asserts s b x d n .0) (bitAt (m .0)) (near-self (bitAt (m .0)))) ∙ m .2)

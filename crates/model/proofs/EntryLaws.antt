@@ -6,7 +6,6 @@ use Prim.Native.Nat.{ℕ, zero, suc, _+_, _*_, _<_}
 use native.Mathlib.Omega.{arith}
 use lib.ListN.{length, getD, length-append}
 use lib.Seq.{getD-at, ext-getD}
-use Rattle.nodes.specs.Standard.{Standard}
 use Rattle.conditions.specs.declared.Store.{Store}
 use Rattle.conditions.specs.Value.{value}
 use Rattle.model.specs.Pairs.{Pair, X, at}
@@ -15,14 +14,14 @@ use Rattle.model.specs.Step.{State, begin}
 use Rattle.model.specs.Published.{Entry, entry}
 use Rattle.model.specs.Claims.{pairs}
 use Rattle.model.specs.Meanings.{entryValue, entriesFrom, entryValues, addressArgument, wordArgument, Enters}
-use Rattle.model.proofs.Held.{Held, add}
-use Rattle.model.proofs.MeansLaws.{means-as, user-means, near-self}
+use Rattle.model.specs.Held.{Held, add}
+use Rattle.model.specs.Table.{Names, MemoryFacts}
+use Rattle.model.proofs.MeansLaws.{near-self}
 use Rattle.model.proofs.HalfLaws.{halfOf, half-even, half-odd}
 use Rattle.model.proofs.AccessLaws.{Halves, EntryMeans, noEntry}
 use Rattle.model.proofs.ListLaws.{entry-words, entry-word, entry-address, entry-data}
-use Rattle.model.proofs.RowLaws.{length-pairs, pairs-half}
+use Rattle.model.proofs.RowLaws.{length-pairs, pairs-half, name-means, names-halves}
 use Rattle.model.proofs.StepLaws.{Holds, pair-is}
-use Rattle.model.proofs.ThirdLaws.{User, Third}
 
 -- what a state holds by its values
 abbrev pub held : (ℕ → Bool) → State → Held
@@ -41,32 +40,29 @@ entries-at φ s (suc k) i (suc j) m h e = entries-at φ s k (suc i) j m (omega a
 half-value : (φ : ℕ → Bool) (w ws : List ℕ) (k h : ℕ) → h < 2 * k → value w φ (getD ws h 0) ≡ halfOf h (at (pairs φ w ws k))
 half-value φ w ws k h l = let z : h ≡ 2 * 0 + h = omega arith in ap (λ (n : ℕ). value w φ (getD ws n 0)) z ∙ pairs-half φ w ws k 0 h l
 
--- a standard store with a list that row 3 accepts means its values
-module _ (φ : ℕ → Bool) (s : State) (S : Standard (s .words) (s .rec .count)) (T : Third s) where
-  user-halves : (ws : List ℕ) (k : ℕ) → ((h : ℕ) → h < 2 * k → User s (getD ws h 0)) → Halves φ 8 (2 * k) (λ τ. at (pairs φ (s .words) ws k)) (s .words) (begin (s .rec)) ws
-  user-halves ws k u = record { half = λ h l. means-as (user-means {s = begin (s .rec)} S (u h l)) (λ τ. half-value φ (s .words) ws k h l) }
-
+-- a memory that rows 1 to 3 accept means its values
+module _ (φ : ℕ → Bool) (s : State) (M : MemoryFacts s) where
   entry-means : (j : ℕ) → j < s .rec .entries → EntryMeans φ (s .rec) (entryValue φ s j) (s .words) (begin (s .rec)) (entryAt (s .rec) (s .list) j)
   entry-means j h =
       record {
-        hard = user-means S (word 0 (omega arith));
-        soft = user-means S (word 1 (omega arith));
-        address = user-halves _ (s .rec .n) (λ i l. rw (entry-address (s .rec) (s .list) j i l) (stored (2 + i) (omega arith)));
-        word = user-halves _ (s .rec .w) (λ i l. rw (entry-data (s .rec) (s .list) j i l) (stored (2 + 2 * s .rec .n + i) (omega arith)));
+        hard = name-means φ (s .rec) (s .words) (M .standard) (word 0 (omega arith));
+        soft = name-means φ (s .rec) (s .words) (M .standard) (word 1 (omega arith));
+        address = names-halves φ (s .rec) (s .words) (M .standard) _ (s .rec .n) (λ i l. rw (entry-address (s .rec) (s .list) j i l) (stored (2 + i) (omega arith)));
+        word = names-halves φ (s .rec) (s .words) (M .standard) _ (s .rec .w) (λ i l. rw (entry-data (s .rec) (s .list) j i l) (stored (2 + 2 * s .rec .n + i) (omega arith)));
         sized = length-pairs φ (s .words) _ 0 (s .rec .n);
       }
     where
-      stored : (k : ℕ) → k < size (s .rec) → User s (getD (s .list) (j * size (s .rec) + k) 0)
-      stored k l = T .words (j * size (s .rec) + k) (entry-words (s .rec) j k h l)
+      stored : (k : ℕ) → k < size (s .rec) → Names (s .rec) (s .words) (getD (s .list) (j * size (s .rec) + k) 0)
+      stored k l = M .listed .words (j * size (s .rec) + k) (entry-words (s .rec) j k h l)
 
-      word : (k : ℕ) → k < size (s .rec) → User s (getD (entryAt (s .rec) (s .list) j) k 0)
+      word : (k : ℕ) → k < size (s .rec) → Names (s .rec) (s .words) (getD (entryAt (s .rec) (s .list) j) k 0)
       word k l = rw (entry-word (s .rec) (s .list) j k l) (stored k l)
 
   pub holds-values : Holds φ s (held φ s)
   holds-values =
       record {
         entries = record { count = length-entries φ s 0 (s .rec .entries); at = λ j h. rw (entries-at φ s (s .rec .entries) 0 j j h (omega arith)) (entry-means j h) };
-        checked = user-means S (T .checked);
+        checked = name-means φ (s .rec) (s .words) (M .standard) (M .listed .checked);
       }
 
 -- words that mean pairs have them as values

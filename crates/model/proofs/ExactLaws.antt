@@ -1,6 +1,6 @@
--- One call: what the symbolic memory says of each bit of each location stays exactly what the plain runs so far can have there.
+-- One call: what may stand at each bit of each location stays exactly what the plain runs so far can have there.
+-- In two halves that do not need each other: what a run has is admitted (Admitted), and what is admitted some run has (Reached).
 use mathlib.Core.Path.{_≡_, refl, sym, ap, _∙_, subst}
-use mathlib.Core.Logic.{_⊎_, inl, inr}
 use mathlib.Core.Bool.{Bool, true, false, _&&_, _||_, not, cond}
 use mathlib.Core.List.{List, [], _∷_, _++_}
 use Prim.Native.Nat.{ℕ, zero, suc, _<_}
@@ -8,45 +8,102 @@ use native.Mathlib.Omega.{arith}
 use lib.Dec.{T}
 use lib.ListN.{length, replicate, length-replicate, getD-replicate}
 use Rattle.model.specs.Pairs.{Pair, X, legal, admit, admits, legals, unique, at, bit, anything}
-use Rattle.model.specs.Published.{Entry, entry, over, scan, cell, look, inside, control}
-use Rattle.model.proofs.Held.{Held, after, Sized, Accepted}
-use Rattle.model.specs.Array.{Event, writes, reads, asserts, checks, nothing, Array, same, store, Bit, Bits, Where, Choice, next, Start}
-use Rattle.model.proofs.PairLaws.{and-left, and-right, and-both, or-left, or-right, either, same-refl, same-eq, admits-length, admits-at, choose, chooses, choose-at, anything-word, one-place, elsewhere, look-to, look-from, inside-to, scan-snoc, over-is}
+use Rattle.model.specs.Published.{Entry, entry, cell, look, answer, control}
+use Rattle.model.specs.Array.{Event, writes, reads, asserts, checks, nothing, Memory, same, put, Bit, Bits, Where, Choice, memoryAfter, Start}
+use Rattle.model.specs.Held.{Held, heldAfter, Accepted}
+use Rattle.model.proofs.PairLaws.{and-left, and-right, and-both, or-left, or-right, either, same-refl, same-eq, admits-length, admits-at, choose, chooses, choose-at, anything-word, one-place, elsewhere, look-to, look-from, scan-snoc, over-is}
 
--- runs so far, each with its array: there is one; words have w bits; each bit is admitted; and each bit that is admitted is some run's
-pub record Exact (w : ℕ) (es : List Entry) (I : Type 0) (arr : I → Array) : Type 0 where
+-- of runs and the word that each has: words have w bits, each bit is admitted
+pub record Admits (w : ℕ) (p : ℕ → Pair) (I : Type 0) (v : I → List Bool) : Type 0 where
+  pub sized : (r : I) → length (v r) ≡ w
+  pub within : (r : I) (i : ℕ) → i < w → T (admit (p i) (bit (v r) i))
+
+-- each bit that is admitted is some run's
+pub record Reaches (w : ℕ) (p : ℕ → Pair) (I : Type 0) (v : I → List Bool) : Type 0 where
+  pub reach : (i : ℕ) → i < w → (b : Bool) → T (admit (p i) b) → (r : I) × (bit (v r) i ≡ b)
+
+-- the same of memories, at each location; f says what may stand there
+pub record Admitted (w : ℕ) (f : List Bool → ℕ → Pair) (I : Type 0) (mem : I → Memory) : Type 0 where
+  pub cells : (x : List Bool) → Admits w (f x) I (λ r. mem r .cells x)
+
+pub record Reached (w : ℕ) (f : List Bool → ℕ → Pair) (I : Type 0) (mem : I → Memory) : Type 0 where
   pub some : I
-  pub sized : (r : I) (x : List Bool) → length (arr r x) ≡ w
-  pub sound : (r : I) (x : List Bool) (i : ℕ) → i < w → T (admit (cell es x i) (bit (arr r x) i))
-  pub exact : (x : List Bool) (i : ℕ) → i < w → (b : Bool) → T (admit (cell es x i) b) → (r : I) × (bit (arr r x) i ≡ b)
+  pub cells : (x : List Bool) → Reaches w (f x) I (λ r. mem r .cells x)
+
+-- other runs with the same memories
+pub admitted-along : (w : ℕ) (f : List Bool → ℕ → Pair) (I J : Type 0) (mem : I → Memory) (nem : J → Memory) →
+    (g : J → I) → ((r : J) → mem (g r) ≡ nem r) → Admitted w f I mem → Admitted w f J nem
+admitted-along w f I J mem nem g e A = record {
+  cells = λ x. record {
+    sized = λ r. subst (λ (m : Memory). length (m .cells x) ≡ w) (e r) (A .cells x .sized (g r));
+    within = λ r i h. subst (λ (m : Memory). T (admit (f x i) (bit (m .cells x) i))) (e r) (A .cells x .within (g r) i h);
+  };
+}
+
+pub reached-along : (w : ℕ) (f : List Bool → ℕ → Pair) (I J : Type 0) (mem : I → Memory) (nem : J → Memory) →
+    (g : I → J) → ((r : I) → nem (g r) ≡ mem r) → Reached w f I mem → Reached w f J nem
+reached-along w f I J mem nem g e R = record {
+  some = g (R .some);
+  cells = λ x. record { reach = λ i h b t. let p = R .cells x .reach i h b t in (g (p .0), ap (λ (m : Memory). bit (m .cells x) i) (e (p .0)) ∙ p .1) };
+}
 
 -- at first: any content
-length-anything : (w : ℕ) (v : List Bool) → T (admits (anything w) v) → length v ≡ w
-length-anything w v t = admits-length (anything w) v t ∙ length-replicate w X
-
-pub X-admits : (b : Bool) → T (admit X b)
+X-admits : (b : Bool) → T (admit X b)
 X-admits true = tt
 X-admits false = tt
 
-pub start : (w : ℕ) → Exact w [] (Start w) (λ r. r .0)
-start w = record {
-  some = (λ x. replicate w true, λ x. anything-word w true);
-  sized = λ r x. length-anything w (r .0 x) (r .1 x);
-  sound = λ r x i h. X-admits (bit (r .0 x) i);
-  exact = λ x i h b t. ((λ y. replicate w b, λ y. anything-word w b), getD-replicate w i b false h);
-}
+length-anything : (w : ℕ) (v : List Bool) → T (admits (anything w) v) → length v ≡ w
+length-anything w v t = admits-length (anything w) v t ∙ length-replicate w X
 
--- the same arrays under other runs
-pub other-runs : (w : ℕ) (es : List Entry) (I J : Type 0) (arr : I → Array) (brr : J → Array) →
-    (f : I → J) → ((r : I) → brr (f r) ≡ arr r) → (g : J → I) → ((r : J) → brr r ≡ arr (g r)) → Exact w es I arr → Exact w es J brr
-other-runs w es I J arr brr f fe g ge E = record {
-  some = f (E .some);
-  sized = λ r x. ap (λ (m : Array). length (m x)) (ge r) ∙ E .sized (g r) x;
-  sound = λ r x i h. subst (λ (m : Array). T (admit (cell es x i) (bit (m x) i))) (sym (ge r)) (E .sound (g r) x i h);
-  exact = λ x i h b t. let p = E .exact x i h b t in (f (p .0), ap (λ (m : Array). bit (m x) i) (fe (p .0)) ∙ p .1);
-}
+all : (w : ℕ) → Bool → Start w
+all w b = (record { cells = λ x. replicate w b }, λ x. anything-word w b)
 
--- a write
+pub start-admitted : (w : ℕ) → Admitted w (cell []) (Start w) (λ r. r .0)
+start-admitted w = record { cells = λ x. record { sized = λ r. length-anything w (r .0 .cells x) (r .1 x); within = λ r i h. X-admits (bit (r .0 .cells x) i) } }
+
+pub start-reached : (w : ℕ) → Reached w (cell []) (Start w) (λ r. r .0)
+unfolding all
+start-reached w = record { some = all w true; cells = λ x. record { reach = λ i h b t. (all w b, getD-replicate w i b false h) } }
+
+-- A look: the word at some address that the pairs admit
+module _ (n w : ℕ) (es : List Entry) (I : Type 0) (mem : I → Memory) (a : List Pair) where
+  pub look-within : Admitted w (cell es) I mem → length a ≡ n → (r : I) (x : Bits a) (i : ℕ) → i < w → T (admit (look n es a i) (bit (mem r .cells (x .0)) i))
+  look-within A na r x i h = look-from n es a na x i (bit (mem r .cells (x .0)) i) (A .cells (x .0) .within r i h)
+
+  pub look-reach : Reached w (cell es) I mem → (i : ℕ) → i < w → (b : Bool) → T (admit (look n es a i) b) → (r : I) × (x : Bits a) × (bit (mem r .cells (x .0)) i ≡ b)
+  look-reach R i h b t =
+      let x = look-to n es a i b t in
+      let r = R .cells (x .0 .0) .reach i h b (x .1) in
+      (r .0, x .0, r .1)
+
+  -- What a read returns: an enable that may be 0 lets any word be returned; one that may not lets the look through
+  abbrev got : (e : Pair) → I × Choice w (reads e a) → List Bool
+  got e r = cond (r .1 .0 .0) (mem (r .0) .cells (r .1 .1 .0)) (r .1 .2 .0)
+
+  pub answer-within : (e : Pair) → Admitted w (cell es) I mem → length a ≡ n → Admits w (λ i. answer n es e a i) (I × Choice w (reads e a)) (got e)
+  answer-within e A na = record { sized = λ r. sized (r .0) (r .1 .0 .0) (r .1 .1 .0) (r .1 .2); within = λ r i h. go (r .0) (r .1 .1) (r .1 .2 .0) i h (e .h) (e .l) (r .1 .0 .0) (r .1 .0 .1) }
+    where
+      sized : (r : I) (on : Bool) (x : List Bool) (v : Bits (anything w)) → length (cond on (mem r .cells x) (v .0)) ≡ w
+      sized r true x v = A .cells x .sized r
+      sized r false x v = length-anything w (v .0) (v .1)
+
+      go : (r : I) (x : Bits a) (v : List Bool) (i : ℕ) → i < w → (eh el on : Bool) → T (admit (record { h = eh; l = el }) on) →
+          T (admit (cond (eh && not el) (look n es a i) X) (bit (cond on (mem r .cells (x .0)) v) i))
+      go r x v i h true false true t = look-within A na r x i h
+      go r x v i h true false false t = absurd t
+      go r x v i h true true on t = X-admits (bit (cond on (mem r .cells (x .0)) v) i)
+      go r x v i h false el on t = X-admits (bit (cond on (mem r .cells (x .0)) v) i)
+
+  pub answer-reach : (e : Pair) → Reached w (cell es) I mem → T (legal e) → T (legals a) → Reaches w (λ i. answer n es e a i) (I × Choice w (reads e a)) (got e)
+  answer-reach e R le la = record { reach = λ i h b t. go i h b (e .h) refl (e .l) refl le t }
+    where
+      go : (i : ℕ) → i < w → (b : Bool) → (eh : Bool) → e .h ≡ eh → (el : Bool) → e .l ≡ el → T (eh || el) →
+          T (admit (cond (eh && not el) (look n es a i) X) b) → (r : I × Choice w (reads e a)) × (bit (got e r) i ≡ b)
+      go i h b eh y true z l t = ((R .some, ((false, subst T (sym z) tt), chooses a la, (replicate w b, anything-word w b))), getD-replicate w i b false h)
+      go i h b true y false z l t = let q = look-reach R i h b t in ((q .0, ((true, subst T (sym y) tt), q .1, (replicate w b, anything-word w b))), q .2)
+      go i h b false y false z l t = absurd l
+
+-- A write
 not-both : (m u : Bool) → (T m → T u → ⊥) → T (not m || not u)
 not-both false u f = tt
 not-both true false f = tt
@@ -55,210 +112,174 @@ not-both true true f = f tt tt
 missed : (a : List Pair) (x y : List Bool) → T (admits a y) → same x y ≡ false → T (not (admits a x) || not (unique a))
 missed a x y t e = not-both (admits a x) (unique a) (λ s u. subst T e (one-place a u x y s t))
 
-rhs : Pair → List Pair → List Pair → List Entry → List Bool → ℕ → Bool → Bool
-rhs c a d es x i b = admits a x && c .h && admit (at d i) b || (not (admits a x) || not (unique a) || c .l) && admit (cell es x i) b
+-- it may land on x, or may pass it by
+lands : Pair → List Pair → List Pair → List Bool → ℕ → Bool → Bool
+lands c a d x i b = admits a x && c .h && admit (at d i) b
+
+passes : Pair → List Pair → List Bool → Bool
+passes c a x = not (admits a x) || not (unique a) || c .l
 
 cell-write : (es : List Entry) (c : Pair) → T (legal c) → (a d : List Pair) (x : List Bool) (i : ℕ) (b : Bool) →
-    admit (cell (es ++ (entry c a d ∷ [])) x i) b ≡ rhs c a d es x i b
-unfolding rhs
+    admit (cell (es ++ (entry c a d ∷ [])) x i) b ≡ (lands c a d x i b || passes c a x && admit (cell es x i) b)
+unfolding lands passes
 cell-write es c t a d x i b = ap (λ (p : Pair). admit p b) (scan-snoc es (entry c a d) x i X) ∙ over-is c t a d x i (cell es x i) b
 
-module _ (w : ℕ) (es : List Entry) (I : Type 0) (arr : I → Array) (E : Exact w es I arr)
-    (c : Pair) (a d : List Pair) (lc : T (legal c)) (la : T (legals a)) (ld : T (legals d)) (wd : length d ≡ w) where
-  brr : I × Choice w (writes c a d) → Array
-  brr r = next w (writes c a d) (r .1) (arr (r .0))
+module _ (w : ℕ) (es : List Entry) (I : Type 0) (mem : I → Memory) (c : Pair) (a d : List Pair) (lc : T (legal c)) (wd : length d ≡ w) where
+  -- what location x has after it
+  has : List Bool → I → Bool → List Bool → List Bool → List Bool
+  has x r on y v = cond on (put (mem r) y v) (mem r) .cells x
 
-  write-sized : (r : I × Choice w (writes c a d)) (x : List Bool) → length (brr r x) ≡ w
-  unfolding brr
-  write-sized r x = go (r .1 .0 .0)
+  write-within : Admitted w (cell es) I mem → (x : List Bool) (r : I) (on : Bit c) (y : Bits a) (v : Bits d) (i : ℕ) → i < w →
+      T (lands c a d x i (bit (has x r (on .0) (y .0) (v .0)) i) || passes c a x && admit (cell es x i) (bit (has x r (on .0) (y .0) (v .0)) i))
+  unfolding has lands passes
+  write-within A x r on y v i h = go (on .0) (on .1)
     where
-      go : (en : Bool) → length (cond en (store (arr (r .0)) (r .1 .1 .0) (r .1 .2 .0)) (arr (r .0)) x) ≡ w
-      go false = E .sized (r .0) x
-      go true = go2 (same x (r .1 .1 .0))
-        where
-          go2 : (s : Bool) → length (cond s (r .1 .2 .0) (arr (r .0) x)) ≡ w
-          go2 true = admits-length d (r .1 .2 .0) (r .1 .2 .1) ∙ wd
-          go2 false = E .sized (r .0) x
+      goal : List Bool → Bool
+      goal u = lands c a d x i (bit u i) || passes c a x && admit (cell es x i) (bit u i)
 
-  write-sound : (r : I × Choice w (writes c a d)) (x : List Bool) (i : ℕ) → i < w → T (rhs c a d es x i (bit (brr r x) i))
-  unfolding brr rhs
-  write-sound r x i h = go (r .1 .0 .0) (r .1 .0 .1)
-    where
-      m : Array
-      m = arr (r .0)
+      old : T (passes c a x) → T (goal (mem r .cells x))
+      old t = or-right (lands c a d x i (bit (mem r .cells x) i)) (passes c a x && admit (cell es x i) (bit (mem r .cells x) i))
+          (and-both (passes c a x) (admit (cell es x i) (bit (mem r .cells x) i)) t (A .cells x .within r i h))
 
-      y : List Bool
-      y = r .1 .1 .0
+      hit : T (c .h) → (t : Bool) → same x (y .0) ≡ t → T (goal (cond t (v .0) (mem r .cells x)))
+      hit p true e = or-left (lands c a d x i (bit (v .0) i)) (passes c a x && admit (cell es x i) (bit (v .0) i))
+          (and-both (admits a x && c .h) (admit (at d i) (bit (v .0) i))
+          (and-both (admits a x) (c .h) (subst (λ (z : List Bool). T (admits a z)) (sym (same-eq x (y .0) (subst T (sym e) tt))) (y .1)) p)
+          (admits-at d (v .0) (v .1) i (omega arith)))
+      hit p false e = old (or-left (not (admits a x) || not (unique a)) (c .l) (missed a x (y .0) (y .1) e))
 
-      v : List Bool
-      v = r .1 .2 .0
-
-      hit : Bool
-      hit = admits a x && c .h
-
-      miss : Bool
-      miss = not (admits a x) || not (unique a) || c .l
-
-      old : T miss → T (rhs c a d es x i (bit (m x) i))
-      old s = or-right (hit && admit (at d i) (bit (m x) i)) (miss && admit (cell es x i) (bit (m x) i))
-          (and-both miss (admit (cell es x i) (bit (m x) i)) s (E .sound (r .0) x i h))
-
-      go2 : T (c .h) → (s : Bool) → same x y ≡ s → T (rhs c a d es x i (bit (cond s v (m x)) i))
-      go2 p true e = or-left (hit && admit (at d i) (bit v i)) (miss && admit (cell es x i) (bit v i))
-          (and-both hit (admit (at d i) (bit v i))
-          (and-both (admits a x) (c .h) (subst (λ (z : List Bool). T (admits a z)) (sym (same-eq x y (subst T (sym e) tt))) (r .1 .1 .1)) p)
-          (admits-at d v (r .1 .2 .1) i (omega arith)))
-      go2 p false e = old (or-left (not (admits a x) || not (unique a)) (c .l) (missed a x y (r .1 .1 .1) e))
-
-      go : (en : Bool) → T (admit c en) → T (rhs c a d es x i (bit (cond en (store m y v) m x) i))
+      go : (on : Bool) → T (admit c on) → T (goal (has x r on (y .0) (v .0)))
       go false p = old (or-right (not (admits a x) || not (unique a)) (c .l) p)
-      go true p = go2 p (same x y) refl
+      go true p = hit p (same x (y .0)) refl
 
-  write-exact : (x : List Bool) (i : ℕ) → i < w → (b : Bool) → T (rhs c a d es x i b) → (r : I × Choice w (writes c a d)) × (bit (brr r x) i ≡ b)
-  unfolding brr rhs
-  write-exact x i h b t = either (hit && admit (at d i) b) (miss && admit (cell es x i) b) t new old
+  write-sized : Admitted w (cell es) I mem → (x : List Bool) (r : I) (on : Bool) (y : List Bool) (v : Bits d) → length (has x r on y (v .0)) ≡ w
+  unfolding has
+  write-sized A x r false y v = A .cells x .sized r
+  write-sized A x r true y v = go (same x y)
     where
-      hit : Bool
-      hit = admits a x && c .h
+      go : (t : Bool) → length (cond t (v .0) (mem r .cells x)) ≡ w
+      go true = admits-length d (v .0) (v .1) ∙ wd
+      go false = A .cells x .sized r
 
-      miss : Bool
-      miss = not (admits a x) || not (unique a) || c .l
-
-      new : T (hit && admit (at d i) b) → (r : I × Choice w (writes c a d)) × (bit (brr r x) i ≡ b)
-      new s =
-          let v = choose-at d ld i (omega arith) b (and-right hit (admit (at d i) b) s) in
-          let p = and-left hit (admit (at d i) b) s in
-          ((E .some, ((true, and-right (admits a x) (c .h) p), (x, and-left (admits a x) (c .h) p), v .0)), rw same-refl (v .1))
-
-      old : T (miss && admit (cell es x i) b) → (r : I × Choice w (writes c a d)) × (bit (brr r x) i ≡ b)
-      old s = either (not (admits a x) || not (unique a)) (c .l) (and-left miss (admit (cell es x i) b) s) beside off
-        where
-          q : (r : I) × (bit (arr r x) i ≡ b)
-          q = E .exact x i h b (and-right miss (admit (cell es x i) b) s)
-
-          off : T (c .l) → (r : I × Choice w (writes c a d)) × (bit (brr r x) i ≡ b)
-          off p = ((q .0, ((false, p), chooses a la, chooses d ld)), q .1)
-
-          beside : T (not (admits a x) || not (unique a)) → (r : I × Choice w (writes c a d)) × (bit (brr r x) i ≡ b)
-          beside p =
-              let y = elsewhere a la x p in
-              let k = choose c lc in
-              ((q .0, (k, y .0, chooses d ld)), go (y .0 .0) (y .1) (k .0))
-            where
-              go : (y : List Bool) → same x y ≡ false → (en : Bool) → bit (cond en (store (arr (q .0)) y ((chooses d ld) .0)) (arr (q .0)) x) i ≡ b
-              go y e true = rw e (q .1)
-              go y e false = q .1
-
-  pub step-write : Exact w (es ++ (entry c a d ∷ [])) (I × Choice w (writes c a d)) (λ r. next w (writes c a d) (r .1) (arr (r .0)))
-  unfolding brr
-  step-write = record {
-    some = (E .some, (choose c lc, chooses a la, chooses d ld));
-    sized = write-sized;
-    sound = λ r x i h. subst T (sym (cell-write es c lc a d x i (bit (brr r x) i))) (write-sound r x i h);
-    exact = λ x i h b t. write-exact x i h b (subst T (cell-write es c lc a d x i b) t);
+  pub write-admitted : Admitted w (cell es) I mem → Admitted w (cell (es ++ (entry c a d ∷ []))) (I × Choice w (writes c a d)) (λ r. memoryAfter w (writes c a d) (r .1) (mem (r .0)))
+  unfolding has
+  write-admitted A = record {
+    cells = λ x. record {
+      sized = λ r. write-sized A x (r .0) (r .1 .0 .0) (r .1 .1 .0) (r .1 .2);
+      within = λ r i h. subst T (sym (cell-write es c lc a d x i (bit (has x (r .0) (r .1 .0 .0) (r .1 .1 .0) (r .1 .2 .0)) i)))
+          (write-within A x (r .0) (r .1 .0) (r .1 .1) (r .1 .2) i h);
+    };
   }
 
--- an assert that is kept, where b holds: what it stores is what was there
-module _ (n w : ℕ) (es : List Entry) (I : Type 0) (arr : I → Array) (E : Exact w es I arr)
-    (a d : List Pair) (la : T (legals a)) (na : length a ≡ n) (ld : T (legals d)) (wd : length d ≡ w)
-    (u : T (unique a)) (A : T (inside w (at d) (look n es a))) (C : T (inside w (look n es a) (at d))) where
-  kept : I × (Bits a × Bits d) → Array
-  kept r = store (arr (r .0)) (r .1 .0 .0) (r .1 .1 .0)
+  module _ (R : Reached w (cell es) I mem) (la : T (legals a)) (ld : T (legals d)) where
+    write-reach : (x : List Bool) (i : ℕ) → i < w → (b : Bool) → T (lands c a d x i b || passes c a x && admit (cell es x i) b) →
+        (r : I) × (k : Choice w (writes c a d)) × (bit (has x r (k .0 .0) (k .1 .0) (k .2 .0)) i ≡ b)
+    unfolding has lands passes
+    write-reach x i h b t = either (lands c a d x i b) (passes c a x && admit (cell es x i) b) t new old
+      where
+        new : T (lands c a d x i b) → (r : I) × (k : Choice w (writes c a d)) × (bit (has x r (k .0 .0) (k .1 .0) (k .2 .0)) i ≡ b)
+        new t =
+            let v = choose-at d ld i (omega arith) b (and-right (admits a x && c .h) (admit (at d i) b) t) in
+            let p = and-left (admits a x && c .h) (admit (at d i) b) t in
+            (R .some, ((true, and-right (admits a x) (c .h) p), (x, and-left (admits a x) (c .h) p), v .0), rw same-refl (v .1))
 
-  kept-sized : (r : I × (Bits a × Bits d)) (x : List Bool) → length (kept r x) ≡ w
-  unfolding kept
-  kept-sized r x = go (same x (r .1 .0 .0))
-    where
-      go : (s : Bool) → length (cond s (r .1 .1 .0) (arr (r .0) x)) ≡ w
-      go true = admits-length d (r .1 .1 .0) (r .1 .1 .1) ∙ wd
-      go false = E .sized (r .0) x
+        old : T (passes c a x && admit (cell es x i) b) → (r : I) × (k : Choice w (writes c a d)) × (bit (has x r (k .0 .0) (k .1 .0) (k .2 .0)) i ≡ b)
+        old t = either (not (admits a x) || not (unique a)) (c .l) (and-left (passes c a x) (admit (cell es x i) b) t) beside off
+          where
+            q : (r : I) × (bit (mem r .cells x) i ≡ b)
+            q = R .cells x .reach i h b (and-right (passes c a x) (admit (cell es x i) b) t)
 
-  kept-sound : (r : I × (Bits a × Bits d)) (x : List Bool) (i : ℕ) → i < w → T (admit (cell es x i) (bit (kept r x) i))
-  unfolding kept
-  kept-sound r x i h = go (same x y) refl
-    where
-      y : List Bool
-      y = r .1 .0 .0
+            off : T (c .l) → (r : I) × (k : Choice w (writes c a d)) × (bit (has x r (k .0 .0) (k .1 .0) (k .2 .0)) i ≡ b)
+            off p = (q .0, ((false, p), chooses a la, chooses d ld), q .1)
 
-      v : List Bool
-      v = r .1 .1 .0
+            beside : T (not (admits a x) || not (unique a)) → (r : I) × (k : Choice w (writes c a d)) × (bit (has x r (k .0 .0) (k .1 .0) (k .2 .0)) i ≡ b)
+            beside p =
+                let y = elsewhere a la x p in
+                let k = choose c lc in
+                (q .0, (k, y .0, chooses d ld), go (y .0 .0) (y .1) (k .0))
+              where
+                go : (y : List Bool) → same x y ≡ false → (on : Bool) → bit (has x (q .0) on y ((chooses d ld) .0)) i ≡ b
+                go y e true = rw e (q .1)
+                go y e false = q .1
 
-      there : (z : Bits a) × T (admit (cell es (z .0) i) (bit v i))
-      there = look-to n es a i (bit v i) (inside-to w (at d) (look n es a) A i h (bit v i) (admits-at d v (r .1 .1 .1) i (omega arith)))
+    pub write-reached : Reached w (cell (es ++ (entry c a d ∷ []))) (I × Choice w (writes c a d)) (λ r. memoryAfter w (writes c a d) (r .1) (mem (r .0)))
+    unfolding has
+    write-reached = record {
+      some = (R .some, (choose c lc, chooses a la, chooses d ld));
+      cells = λ x. record { reach = λ i h b t. let q = write-reach x i h b (subst T (cell-write es c lc a d x i b) t) in ((q .0, q .1), q .2) };
+    }
 
-      go : (s : Bool) → same x y ≡ s → T (admit (cell es x i) (bit (cond s v (arr (r .0) x)) i))
-      go false e = E .sound (r .0) x i h
-      go true e =
-          let p : there .0 .0 ≡ x = same-eq (there .0 .0) y (one-place a u (there .0 .0) y (there .0 .1) (r .1 .0 .1)) ∙ sym (same-eq x y (subst T (sym e) tt)) in
-          subst (λ (z : List Bool). T (admit (cell es z i) (bit v i))) p (there .1)
-
-  kept-exact : (x : List Bool) (i : ℕ) → i < w → (b : Bool) → T (admit (cell es x i) b) → (r : I × (Bits a × Bits d)) × (bit (kept r x) i ≡ b)
-  unfolding kept
-  kept-exact x i h b t = go (admits a x) refl
-    where
-      go : (s : Bool) → admits a x ≡ s → (r : I × (Bits a × Bits d)) × (bit (kept r x) i ≡ b)
-      go true e =
-          let p : T (admits a x) = subst T (sym e) tt in
-          let v = choose-at d ld i (omega arith) b (inside-to w (look n es a) (at d) C i h b (look-from n es a na (x, p) i b t)) in
-          ((E .some, ((x, p), v .0)), rw same-refl (v .1))
-      go false e =
-          let q = E .exact x i h b t in
-          let y = elsewhere a la x (or-left (not (admits a x)) (not (unique a)) (subst (λ (z : Bool). T (not z)) (sym e) tt)) in
-          ((q .0, (y .0, chooses d ld)), rw (y .1) (q .1))
-
-  pub step-kept : Exact w es (I × (Bits a × Bits d)) (λ r. store (arr (r .0)) (r .1 .0 .0) (r .1 .1 .0))
-  unfolding kept
-  step-kept = record { some = (E .some, (chooses a la, chooses d ld)); sized = kept-sized; sound = kept-sound; exact = kept-exact }
-
--- an accepted call has a choice, whatever the array
+-- Any call
 where-choice : {A : Type 0} (b : Bool) → A → Where b A
 where-choice true x = x
 where-choice false x = tt
 
-pub some-choice : (n w : ℕ) (s : Held) (k : Bool) (e : Event) → Accepted n w s k e → Choice w e
-some-choice n w s k (writes c a d) q = (choose c (q .0), chooses a (q .1 .0), chooses d (q .2 .0))
-some-choice n w s k (reads e a) q = (choose e (q .0), chooses a (q .1 .0), (replicate w true, anything-word w true))
-some-choice n w s k (asserts b a d) q = where-choice b (chooses a (q .0 .0), chooses d (q .1 .0))
-some-choice n w s k (checks b a d) q = where-choice b (chooses a (q .0 .0))
-some-choice n w s k nothing q = tt
+-- an accepted call has a choice, whatever the memory
+pub some-choice : (n w : ℕ) (e : Event) → Accepted n w e → Choice w e
+some-choice n w (writes c a d) q = (choose c (q .0), chooses a (q .1 .0), chooses d (q .2 .0))
+some-choice n w (reads e a) q = (choose e (q .0), chooses a (q .1 .0), (replicate w true, anything-word w true))
+some-choice n w (asserts b a d) q = where-choice b (chooses a (q .0 .0), chooses d (q .1 .0))
+some-choice n w (checks b a d) q = where-choice b (chooses a (q .0 .0))
+some-choice n w nothing q = tt
+
+control-legal : (b : Bool) → T (legal (control b))
+control-legal true = tt
+control-legal false = tt
+
+-- an assert is the write whose enable is b
+module _ (w : ℕ) (a d : List Pair) where
+  as-write : (b : Bool) → Bits a × Bits d → Choice w (asserts b a d) → Choice w (writes (control b) a d)
+  as-write true o k = ((true, tt), k .0, k .1)
+  as-write false o k = ((false, tt), o .0, o .1)
+
+  as-write-same : (b : Bool) (o : Bits a × Bits d) (k : Choice w (asserts b a d)) (m : Memory) → memoryAfter w (writes (control b) a d) (as-write b o k) m ≡ memoryAfter w (asserts b a d) k m
+  unfolding as-write
+  as-write-same true o k m = refl
+  as-write-same false o k m = refl
+
+  as-assert : (b : Bool) → Choice w (writes (control b) a d) → Choice w (asserts b a d)
+  as-assert true k = (k .1, k .2)
+  as-assert false k = tt
+
+  as-assert-same : (b on : Bool) (t : T (admit (control b) on)) (x : Bits a) (v : Bits d) (m : Memory) →
+      memoryAfter w (asserts b a d) (as-assert b ((on, t), x, v)) m ≡ memoryAfter w (writes (control b) a d) ((on, t), x, v) m
+  unfolding as-assert
+  as-assert-same true true t x v m = refl
+  as-assert-same false false t x v m = refl
+  as-assert-same true false t x v m = absurd t
+  as-assert-same false true t x v m = absurd t
 
 -- a call that stores nothing
-idle : (w : ℕ) (es : List Entry) (I K : Type 0) (arr : I → Array) → K → Exact w es I arr → Exact w es (I × K) (λ r. arr (r .0))
-idle w es I K arr k E = other-runs w es I (I × K) arr (λ r. arr (r .0)) (λ r. (r, k)) (λ r. refl) (λ r. r .0) (λ r. refl) E
+idle-admitted : (w : ℕ) (f : List Bool → ℕ → Pair) (I K : Type 0) (mem : I → Memory) → Admitted w f I mem → Admitted w f (I × K) (λ r. mem (r .0))
+idle-admitted w f I K mem A = admitted-along w f I (I × K) mem (λ r. mem (r .0)) (λ r. r .0) (λ r. refl) A
 
--- a forced enable
-forced : (en : Bool) (b : Bool) → T (admit (record { h = b; l = not b }) en) → en ≡ b
-forced true true t = refl
-forced false false t = refl
-forced true false t = absurd t
-forced false true t = absurd t
+idle-reached : (w : ℕ) (f : List Bool → ℕ → Pair) (I K : Type 0) (mem : I → Memory) → K → Reached w f I mem → Reached w f (I × K) (λ r. mem (r .0))
+idle-reached w f I K mem k R = reached-along w f I (I × K) mem (λ r. mem (r .0)) (λ r. (r, k)) (λ r. refl) R
 
-pub step : (n w : ℕ) (s : Held) (I : Type 0) (arr : I → Array) → Exact w (s .entries) I arr → (k : Bool) (e : Event) → Accepted n w s k e →
-    Exact w ((after n w s k e) .entries) (I × Choice w e) (λ r. next w e (r .1) (arr (r .0)))
-step n w s I arr E k (writes c a d) q = step-write w (s .entries) I arr E c a d (q .0) (q .1 .0) (q .2 .0) (q .2 .1)
-step n w s I arr E k (reads e a) q = idle w (s .entries) I (Choice w (reads e a)) arr (some-choice n w s k (reads e a) q) E
-step n w s I arr E true (asserts true a d) q =
-    step-kept n w (s .entries) I arr E a d (q .0 .0) (q .0 .1) (q .1 .0) (q .1 .1) (q .2)
-    (and-left (inside w (at d) (look n (s .entries) a)) (inside w (look n (s .entries) a) (at d)) (q .3))
-    (and-right (inside w (at d) (look n (s .entries) a)) (inside w (look n (s .entries) a) (at d)) (q .3))
-step n w s I arr E true (asserts false a d) q = idle w (s .entries) I (Unit {0}) arr tt E
-step n w s I arr E false (asserts true a d) q =
-    let c : Pair = control true in
-    other-runs w (s .entries ++ (entry c a d ∷ [])) (I × Choice w (writes c a d)) (I × (Bits a × Bits d))
-    (λ r. next w (writes c a d) (r .1) (arr (r .0))) (λ r. store (arr (r .0)) (r .1 .0 .0) (r .1 .1 .0))
-    (λ r. (r .0, (r .1 .1, r .1 .2)))
-    (λ r. rw (forced (r .1 .0 .0) true (r .1 .0 .1)))
-    (λ r. (r .0, ((true, tt), r .1 .0, r .1 .1)))
-    (λ r. refl)
-    (step-write w (s .entries) I arr E c a d tt (q .0 .0) (q .1 .0) (q .1 .1))
-step n w s I arr E false (asserts false a d) q =
-    let c : Pair = control false in
-    other-runs w (s .entries ++ (entry c a d ∷ [])) (I × Choice w (writes c a d)) (I × Unit {0})
-    (λ r. next w (writes c a d) (r .1) (arr (r .0))) (λ r. arr (r .0))
-    (λ r. (r .0, tt))
-    (λ r. rw (forced (r .1 .0 .0) false (r .1 .0 .1)))
-    (λ r. (r .0, ((false, tt), chooses a (q .0 .0), chooses d (q .1 .0))))
-    (λ r. refl)
-    (step-write w (s .entries) I arr E c a d tt (q .0 .0) (q .1 .0) (q .1 .1))
-step n w s I arr E k (checks b a d) q = idle w (s .entries) I (Choice w (checks b a d)) arr (some-choice n w s k (checks b a d) q) E
-step n w s I arr E k nothing q = idle w (s .entries) I (Unit {0}) arr tt E
+module _ (n w : ℕ) (s : Held) (I : Type 0) (mem : I → Memory) where
+  pub step-admitted : Admitted w (cell (s .entries)) I mem → (e : Event) → Accepted n w e → Admitted w (cell (heldAfter n w s e .entries)) (I × Choice w e) (λ r. memoryAfter w e (r .1) (mem (r .0)))
+  step-admitted A (writes c a d) q = write-admitted w (s .entries) I mem c a d (q .0) (q .2 .1) A
+  step-admitted A (reads e a) q = idle-admitted w (cell (s .entries)) I (Choice w (reads e a)) mem A
+  step-admitted A (asserts b a d) q =
+      let c : Pair = control b in
+      let o : Bits a × Bits d = (chooses a (q .0 .0), chooses d (q .1 .0)) in
+      admitted-along w (cell (s .entries ++ (entry c a d ∷ []))) (I × Choice w (writes c a d)) (I × Choice w (asserts b a d))
+      (λ r. memoryAfter w (writes c a d) (r .1) (mem (r .0))) (λ r. memoryAfter w (asserts b a d) (r .1) (mem (r .0)))
+      (λ r. (r .0, as-write w a d b o (r .1)))
+      (λ r. as-write-same w a d b o (r .1) (mem (r .0)))
+      (write-admitted w (s .entries) I mem c a d (control-legal b) (q .1 .1) A)
+  step-admitted A (checks b a d) q = idle-admitted w (cell (s .entries)) I (Choice w (checks b a d)) mem A
+  step-admitted A nothing q = idle-admitted w (cell (s .entries)) I (Unit {0}) mem A
+
+  pub step-reached : Reached w (cell (s .entries)) I mem → (e : Event) → Accepted n w e → Reached w (cell (heldAfter n w s e .entries)) (I × Choice w e) (λ r. memoryAfter w e (r .1) (mem (r .0)))
+  step-reached R (writes c a d) q = write-reached w (s .entries) I mem c a d (q .0) (q .2 .1) R (q .1 .0) (q .2 .0)
+  step-reached R (reads e a) q = idle-reached w (cell (s .entries)) I (Choice w (reads e a)) mem (some-choice n w (reads e a) q) R
+  step-reached R (asserts b a d) q =
+      let c : Pair = control b in
+      reached-along w (cell (s .entries ++ (entry c a d ∷ []))) (I × Choice w (writes c a d)) (I × Choice w (asserts b a d))
+      (λ r. memoryAfter w (writes c a d) (r .1) (mem (r .0))) (λ r. memoryAfter w (asserts b a d) (r .1) (mem (r .0)))
+      (λ r. (r .0, as-assert w a d b (r .1)))
+      (λ r. as-assert-same w a d b (r .1 .0 .0) (r .1 .0 .1) (r .1 .1) (r .1 .2) (mem (r .0)))
+      (write-reached w (s .entries) I mem c a d (control-legal b) (q .1 .1) R (q .0 .0) (q .1 .0))
+  step-reached R (checks b a d) q = idle-reached w (cell (s .entries)) I (Choice w (checks b a d)) mem (some-choice n w (checks b a d) q) R
+  step-reached R nothing q = idle-reached w (cell (s .entries)) I (Unit {0}) mem tt R

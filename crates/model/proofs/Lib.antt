@@ -1,14 +1,15 @@
 pub mod PairLaws
-pub mod Held
 pub mod ExactLaws
 pub mod RunLaws
 pub mod MeansLaws
+pub mod KeptLaws
 pub mod HalfLaws
 pub mod AccessLaws
 pub mod ListLaws
+pub mod ThirdLaws
+pub mod FactLaws
 pub mod RowLaws
 pub mod StepLaws
-pub mod ThirdLaws
 pub mod EntryLaws
 pub mod Demand2
 pub mod ValidLaws

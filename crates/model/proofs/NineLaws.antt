@@ -1,23 +1,26 @@
 -- 9 is met at capacity: every access is a program that makes the store full there alone.
 use mathlib.Core.Path.{_≡_, refl}
-use mathlib.Core.Bool.{true, false, _&&_, false≢true}
+use mathlib.Core.Bool.{Bool, true, false, cond, _&&_, false≢true}
 use mathlib.Core.List.{List}
 use Prim.Native.Nat.{ℕ, zero, suc, _*_}
+use native.Mathlib.Omega.{arith}
+use lib.Dec.{eqb}
 use lib.ListN.{getD}
 use Rattle.nodes.specs.Words.{capacityOf}
 use Rattle.nodes.specs.Standard.{Standard}
 use Rattle.nodes.proofs.BoolLaws.{split}
-use Rattle.conditions.specs.Build.{Build}
+use Rattle.conditions.specs.declared.Store.{Store}
+use Rattle.conditions.specs.Build.{Outcome, Build}
 use Rattle.conditions.specs.Meaning.{Within, Fills}
-use Rattle.conditions.proofs.Promises.{standard-is, standard-within, pure-fills, next-fills, each-fills, variable-fills, ite-fills, any-fills}
+use Rattle.conditions.proofs.Promises.{standard-within, pure-fills, next-fills, each-fills, variable-fills, ite-fills, any-fills}
 use Rattle.model.specs.Record.{Record, hAt, lAt, entryAt, addressOf, dataOf}
 use Rattle.model.specs.Access.{uniqueBit, Unique, Certain, Write, narrowBit, Narrow, halfStep, EachHalf, mergeHalf, entryStep, settleHalf, Look, Read, insideHalf, Inside, Check, Assert}
-use Rattle.model.specs.Rows.{row8, writeRows, readRows, assertRows, checkRows, evaluateRows, variableRows, iteRows}
-use Rattle.model.specs.Step.{State, Call, write, read, assert, check, evaluate, variable, ite, refused, refusal, begin, act, unless, step}
-use Rattle.model.specs.Frames.{built, asserting, needsEntry, NineAtCapacity}
-use Rattle.model.proofs.RowLaws.{rows-hold}
+use Rattle.model.specs.Rows.{row8}
+use Rattle.model.specs.Step.{State, write, read, assert, check, evaluate, variable, ite, Call, access, nodeCall, Given, refused, refusal, Finish, full, short, gives, closed, unlessFull, begin, assertFirst, enter, finishAccess, finishNode, finish, unlessRefused, step}
+use Rattle.model.specs.Frames.{lateRow, NineAtCapacity}
+use Rattle.model.proofs.FactLaws.{call-standard}
 use Rattle.model.proofs.FrameLaws.{plain, rows-plain}
-use Rattle.model.proofs.StayLaws.{nine-overflows}
+use Rattle.model.proofs.StayLaws.{nine-full}
 
 certain-fills : (h l : ℕ) → Fills (Certain h l)
 unfolding Certain
@@ -89,35 +92,54 @@ module _ (s : State) (S : Standard (s .words) (s .rec .count)) where
   from : {A : Type 0} {m : Build A} → Fills m → Within capacity (m (s .words) (begin (s .rec)) .words) (m (s .words) (begin (s .rec)) .store)
   from F = F .within capacity (s .words) (begin (s .rec)) (standard-within S)
 
-  built-at : (c : Call) → built c s .full ≡ true → built c s .count ≡ capacity
-  built-at (write c a d) = from (write-fills (s .rec .n) (getD c 0 0) (getD c 1 0) a) .at-capacity
-  built-at (read e a out) = from (read-fills (s .rec) (s .list) (getD e 0 0) (getD e 1 0) a) .at-capacity
-  built-at (check b a d) = from (check-fills (s .rec) (s .list) b a d) .at-capacity
-  built-at (evaluate f a) = λ e. absurd (false≢true e)
-  built-at (variable v) = from (variable-fills v) .at-capacity
-  built-at (ite f g h) = from (ite-fills f g h) .at-capacity
-  built-at (assert b a d) =
-      let x = asserting b a d s in
-      let X = from (assert-fills (s .rec) (s .list) b a d) in
-      split (needsEntry x && row8 (s .rec) (s .words) (s .list))
-      (λ t. rw t (write-fills (s .rec .n) b (x .answer .unless) a .within capacity (x .words) (record { count = x .store .count; full = false }) (record { capacity = X .capacity; most = X .most; at-capacity = λ e. absurd (false≢true e) }) .at-capacity))
-      (λ t. rw t (X .at-capacity))
+  -- what a call comes to is full at capacity alone
+  abbrev Met : Finish → Type 0
+  Met (full t) = t .count ≡ capacity
+  Met short = Unit {0}
+  Met (gives g t) = Unit {0}
 
-rows-standard : (c : Call) (s : State) → refusal c s ≡ 0 → Standard (s .words) (s .rec .count)
-rows-standard (write c a d) s e = standard-is _ _ (rows-hold (writeRows (s .rec) (s .words) (s .list) c a d) refl e .1 .0)
-rows-standard (read c a out) s e = standard-is _ _ (rows-hold (readRows (s .rec) (s .words) (s .list) c a out) refl e .1 .0)
-rows-standard (assert b a d) s e = standard-is _ _ (rows-hold (assertRows (s .rec) (s .words) (s .list) b a d) refl e .1 .0)
-rows-standard (check b a d) s e = standard-is _ _ (rows-hold (checkRows (s .rec) (s .words) (s .list) b a d) refl e .1 .0)
-rows-standard (evaluate f a) s e = standard-is _ _ (rows-hold (evaluateRows (s .rec) (s .words) f) refl e .1 .0)
-rows-standard (variable v) s e = standard-is _ _ (rows-hold (variableRows (s .rec) (s .words) v) refl e .1 .0)
-rows-standard (ite f g h) s e = standard-is _ _ (rows-hold (iteRows (s .rec) (s .words) f g h) refl e .1 .0)
+  full-met : {A : Type 0} (x : Outcome A) (k : A → List ℕ → ℕ → Finish) → (x .store .full ≡ true → x .store .count ≡ capacity) → (x .store .full ≡ false → Met (k (x .answer) (x .words) (x .store .count))) → Met (unlessFull x k)
+  unfolding unlessFull
+  full-met x k h g = go (x .store .full) refl
+    where
+      go : (f : Bool) → x .store .full ≡ f → Met (cond f (full (x .store)) (k (x .answer) (x .words) (x .store .count)))
+      go true e = h e
+      go false e = g e
+
+  -- a program alone
+  alone-met : {A : Type 0} {m : Build A} → Fills m → (g : A → Given) (t : A → List ℕ → ℕ → State) → Met (unlessFull (m (s .words) (begin (s .rec))) (λ a w c. gives (g a) (t a w c)))
+  alone-met F g t = full-met _ _ (from F .at-capacity) (λ e. tt)
+
+  finish-met : (c : Call) → Met (finish c s)
+  unfolding finishAccess finishNode enter
+  finish-met (access (write c a d)) = alone-met (write-fills (s .rec .n) (getD c 0 0) (getD c 1 0) a) _ _
+  finish-met (access (read e a out)) = alone-met (read-fills (s .rec) (s .list) (getD e 0 0) (getD e 1 0) a) _ _
+  finish-met (access (check b a d)) = alone-met (check-fills (s .rec) (s .list) b a d) _ _
+  finish-met (access (assert b a d)) =
+      let x = assertFirst b a d s in
+      let X = from (assert-fills (s .rec) (s .list) b a d) in
+      full-met x _ (X .at-capacity)
+      (λ f. split (eqb (x .answer .keep) 1) (λ t. rw t tt)
+      (λ t. split (row8 (s .rec) (s .words) (s .list))
+      (λ r. rw (t, r)
+      (full-met (Write (s .rec .n) b (x .answer .unless) a (x .words) (record { count = x .store .count; full = false })) _
+      (write-fills (s .rec .n) b (x .answer .unless) a .within capacity (x .words) (record { count = x .store .count; full = false }) (record { capacity = X .capacity; most = X .most; at-capacity = λ e. absurd (false≢true e) }) .at-capacity) (λ e. tt)))
+      (λ r. rw (t, r) tt)))
+  finish-met (nodeCall (evaluate f a)) = tt
+  finish-met (nodeCall (variable v)) = alone-met (variable-fills v) _ _
+  finish-met (nodeCall (ite f g h)) = alone-met (ite-fills f g h) _ _
+
+  at-nine : (x : Finish) → Met x → lateRow x ≡ 9 → (t : Store) × (x ≡ full t) × (t .count ≡ capacity)
+  at-nine (full t) m e = (t, refl, m)
+  at-nine short m e = absurd (omega arith)
+  at-nine (gives g t) m e = absurd (omega arith)
 
 pub nine-at-capacity : NineAtCapacity
 unfolding NineAtCapacity step
 nine-at-capacity c s = go (refusal c s) refl
   where
-    go : (k : ℕ) → refusal c s ≡ k → unless k s (act c s) .answer ≡ refused 9 → built c s .count ≡ capacityOf (s .words)
-    go zero r e = built-at s (rows-standard c s r) c (nine-overflows c s e)
+    go : (k : ℕ) → refusal c s ≡ k → unlessRefused k s (closed s (finish c s)) .answer ≡ refused 9 → (t : Store) × (finish c s ≡ full t) × (t .count ≡ capacityOf (s .words))
+    go zero r e = let S = call-standard c s r in at-nine s S (finish c s) (finish-met s S c) (nine-full s (finish c s) e)
     go (suc k) r e =
         let z : suc k ≡ 9 = cc in
         let p : plain c 9 ≡ true = rw z at (rows-plain c s k r) in

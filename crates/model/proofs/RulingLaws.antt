@@ -18,15 +18,15 @@ use Rattle.conditions.specs.Meet.{judgeOf, meetsBy, meetsUpTo, meets, neither}
 use Rattle.model.specs.Record.{listCapacity, appended}
 use Rattle.model.specs.Access.{uniqueBit, Unique, Certain, Write, narrowBit, Narrow, halfStep, EachHalf, mergeHalf, entryStep, settleHalf, Look, maskHalf, Read, insideHalf, Inside, Check}
 use Rattle.model.specs.Rows.{row1, row3}
-use Rattle.model.specs.Step.{State, Call, Answer, refused, place, filled, entered, kept, accepted, valued, node, isRefused, orNine, act, step, run, fresh}
-use Rattle.model.specs.Rulings.{Expected, fills, leaves, Ruling, rulings, start, result, Taken, Gives, Says, taken, sameWords, gives, ruled, allRuled}
+use Rattle.model.specs.Step.{State, Call, Given, place, filled, entered, kept, accepted, valued, node, Answer, refused, done, isRefused, closed, unlessFull, finishAccess, step, run, fresh}
+use Rattle.model.specs.Rulings.{Expected, reading, leaving, Ruling, rulings, start, result, Taken, Gives, Says, taken, sameWords, fits, answers, ruled, allRuled}
 
 pub rulings-hold : allRuled rulings ≡ true
 unfolding
     hasWords seek every counted terminals lowest isStandard
     next forEach Make plainOf partOf iteBy iteUpTo Ite stopOf anyBy anyUpTo Any isUser judgeOf meetsBy meetsUpTo meets neither
     listCapacity appended uniqueBit Unique Certain Write narrowBit Narrow halfStep EachHalf mergeHalf entryStep settleHalf Look Read insideHalf Inside Check
-    row1 row3 orNine act step run fresh rulings start result taken ruled allRuled
+    row1 row3 closed unlessFull finishAccess step run fresh rulings start result taken ruled allRuled
 rulings-hold = refl
 
 -- from a test that passes to what it says
@@ -38,17 +38,20 @@ words-same (x ∷ xs) (y ∷ ys) e =
     let q = and-both (eqb x y) (sameWords xs ys) e in
     cc (eqb-true x y (q .0), words-same xs ys (q .1))
 
-gives-is : (e : Expected) (x : Answer) (c : ℕ) → gives e x c ≡ true → Gives e x c
-gives-is e (refused k) c p = absurd (false≢true p)
-gives-is e (place k) c p = absurd (false≢true p)
-gives-is (fills ws) (filled r) c p = ap filled (words-same r ws p)
-gives-is (leaves k) (filled r) c p = absurd (false≢true p)
-gives-is e entered c p = absurd (false≢true p)
-gives-is e kept c p = absurd (false≢true p)
-gives-is (fills ws) accepted c p = absurd (false≢true p)
-gives-is (leaves k) accepted c p = (refl, eqb-true c k p)
-gives-is e (valued b) c p = absurd (false≢true p)
-gives-is e (node n) c p = absurd (false≢true p)
+fits-is : (e : Expected) (g : Given) (c : ℕ) → fits e g c ≡ true → Gives e (done g) c
+fits-is e (place k) c p = absurd (false≢true p)
+fits-is (reading ws) (filled r) c p = ap (λ (ws : List ℕ). done (filled ws)) (words-same r ws p)
+fits-is (leaving k) (filled r) c p = absurd (false≢true p)
+fits-is e entered c p = absurd (false≢true p)
+fits-is e kept c p = absurd (false≢true p)
+fits-is (reading ws) accepted c p = absurd (false≢true p)
+fits-is (leaving k) accepted c p = (refl, eqb-true c k p)
+fits-is e (valued b) c p = absurd (false≢true p)
+fits-is e (node n) c p = absurd (false≢true p)
+
+answers-is : (e : Expected) (x : Answer) (c : ℕ) → answers e x c ≡ true → Gives e x c
+answers-is e (refused k) c p = absurd (false≢true p)
+answers-is e (done g) c p = fits-is e g c p
 
 taken-is : (cs : List Call) (s : State) → taken cs s ≡ true → Taken cs s
 unfolding taken
@@ -60,8 +63,8 @@ taken-is (c ∷ cs) s e =
 ruled-says : (r : Ruling) → ruled r ≡ true → Says r
 unfolding ruled
 ruled-says r e =
-    let q = and-both (taken (r .before) (start (r .w))) (gives (r .expected) (result r .answer) (result r .after .rec .checked)) e in
-    (taken-is (r .before) (start (r .w)) (q .0), gives-is (r .expected) (result r .answer) (result r .after .rec .checked) (q .1))
+    let q = and-both (taken (r .before) (start (r .w))) (answers (r .expected) (result r .answer) (result r .after .rec .checked)) e in
+    (taken-is (r .before) (start (r .w)) (q .0), answers-is (r .expected) (result r .answer) (result r .after .rec .checked) (q .1))
 
 each-says : (rs : List Ruling) → allRuled rs ≡ true → (r : Ruling) → List·Memᴰ r rs → Says r
 unfolding allRuled

@@ -1,133 +1,130 @@
--- Under one assignment, over the whole list: what the list's reads admit and its check condition says is what the plain runs give.
+-- Under one assignment, over the whole list: what the published run's reads admit and its check condition says is what the plain runs give.
+-- Each half of it from one half of the invariant: a run's words are admitted, and what is admitted some run has.
 use mathlib.Core.Path.{_≡_, refl, sym, ap, _∙_, subst}
 use mathlib.Core.Logic.{_↔_}
-use mathlib.Core.Bool.{Bool, true, false, _&&_, _||_, not, cond}
-use mathlib.Core.List.{List, [], _∷_, _++_}
+use mathlib.Core.Bool.{Bool, true, false, _&&_, _||_, not}
+use mathlib.Core.List.{List, [], _∷_}
 use Prim.Native.Nat.{ℕ, zero, suc, _<_}
 use native.Mathlib.Omega.{arith}
 use lib.Dec.{T}
-use lib.ListN.{length, replicate, getD-replicate}
-use Rattle.model.specs.Pairs.{Pair, X, legal, admit, admits, legals, unique, at, bit, anything}
-use Rattle.model.specs.Published.{Entry, cell, look, certain, answer, inside}
-use Rattle.model.proofs.Held.{Held, none, later, after, final, Accepted, AllAccepted, May}
-use Rattle.model.specs.Array.{Event, writes, reads, asserts, checks, nothing, Array, Bit, Bits, Choice, Choices, next, outcome, outcomesFrom, Returns, Allowed, Start, Run}
-use Rattle.model.proofs.PairLaws.{and-left, and-right, and-both, admits-at, admits-all, chooses, anything-word, look-to, look-from, inside-to, inside-from}
-use Rattle.model.proofs.ExactLaws.{Exact, X-admits, start, step, some-choice}
+use lib.ListN.{length}
+use Rattle.model.specs.Pairs.{Pair, admit, admits, at, bit}
+use Rattle.model.specs.Published.{Entry, cell, look, answer, inside}
+use Rattle.model.specs.Array.{Event, writes, reads, asserts, checks, nothing, Memory, Bits, Choice, Choices, memoryAfter, observes, observesFrom, Returns, Allowed, Start, Run}
+use Rattle.model.specs.Held.{Held, holdsNothing, heldAfter, heldAfterAll, NowMay, HeldMay, Accepted, AllAccepted}
+use Rattle.model.proofs.PairLaws.{and-left, and-right, and-both, admits-at, admits-all, inside-to, inside-from}
+use Rattle.model.proofs.ExactLaws.{Admitted, Reached, start-admitted, start-reached, look-within, look-reach, answer-within, answer-reach, some-choice, step-admitted, step-reached}
 
--- any array can go on through accepted calls
-some-choices : (n w : ℕ) (s : Held) (ks : ℕ → Bool) (es : List Event) → AllAccepted n w s ks es → Choices w es
-some-choices n w s ks [] q = tt
-some-choices n w s ks (e ∷ es) q = (some-choice n w s (ks zero) e (q .0), some-choices n w (after n w s (ks zero) e) (later ks) es (q .1))
+-- any memory can go on through accepted calls
+some-choices : (n w : ℕ) (es : List Event) → AllAccepted n w es → Choices w es
+some-choices n w [] q = tt
+some-choices n w (e ∷ es) q = (some-choice n w e (q .0), some-choices n w es (q .1))
 
--- a read, now
-module _ (n w : ℕ) (es : List Entry) (I : Type 0) (arr : I → Array) (E : Exact w es I arr)
-    (e : Pair) (a : List Pair) (le : T (legal e)) (la : T (legals a)) (na : length a ≡ n) (i : ℕ) (h : i < w) (b : Bool) where
-  -- an enable that may be 0 lets any word be returned; one that may not lets the look through
-  read-to : T (admit (answer n es e a i) b) → (r : I × Choice w (reads e a)) × (bit (cond (r .1 .0 .0) (arr (r .0) (r .1 .1 .0)) (r .1 .2 .0)) i ≡ b)
-  read-to t = go (e .h) refl (e .l) refl le t
-    where
-      go : (eh : Bool) → e .h ≡ eh → (el : Bool) → e .l ≡ el → T (eh || el) → T (admit (cond (eh && not el) (look n es a i) X) b) →
-          (r : I × Choice w (reads e a)) × (bit (cond (r .1 .0 .0) (arr (r .0) (r .1 .1 .0)) (r .1 .2 .0)) i ≡ b)
-      go eh p true q le t =
-          ((E .some, ((false, subst T (sym q) tt), chooses a la, (replicate w b, anything-word w b))), getD-replicate w i b false h)
-      go true p false q le t =
-          let x = look-to n es a i b t in
-          let r = E .exact (x .0 .0) i h b (x .1) in
-          ((r .0, ((true, subst T (sym p) tt), x .0, (replicate w b, anything-word w b))), r .1)
-      go false p false q le t = absurd le
+module _ (n w : ℕ) where
+  -- the bits of a read
+  now-within : (s : Held) (I : Type 0) (mem : I → Memory) → Admitted w (cell (s .entries)) I mem → (e : Event) → Accepted n w e → (i : ℕ) → i < w → (b : Bool)
+      (r : I) (k : Choice w e) → Returns (observes w e k (mem r)) i b → NowMay n s e i b
+  now-within s I mem A (writes c a d) q i h b r k t = t
+  now-within s I mem A (reads e a) q i h b r k t = subst (λ (z : Bool). T (admit (answer n (s .entries) e a i) z)) t (answer-within n w (s .entries) I mem a e A (q .1 .1) .within (r, k) i h)
+  now-within s I mem A (asserts c a d) q i h b r k t = t
+  now-within s I mem A (checks true a d) q i h b r k t = t
+  now-within s I mem A (checks false a d) q i h b r k t = t
+  now-within s I mem A nothing q i h b r k t = t
 
-  read-from : (r : I × Choice w (reads e a)) → bit (cond (r .1 .0 .0) (arr (r .0) (r .1 .1 .0)) (r .1 .2 .0)) i ≡ b → T (admit (answer n es e a i) b)
-  read-from r p = go (e .h) (e .l) (r .1 .0 .0) (r .1 .0 .1) p
-    where
-      go : (eh el en : Bool) → T (admit (record { h = eh; l = el }) en) → bit (cond en (arr (r .0) (r .1 .1 .0)) (r .1 .2 .0)) i ≡ b →
-          T (admit (cond (eh && not el) (look n es a i) X) b)
-      go false el en t p = X-admits b
-      go true true en t p = X-admits b
-      go true false false t p = absurd t
-      go true false true t p =
-          look-from n es a na (r .1 .1) i b
-          (subst (λ (c : Bool). T (admit (cell es (r .1 .1 .0) i) c)) p (E .sound (r .0) (r .1 .1 .0) i h))
+  now-reach : (s : Held) (I : Type 0) (mem : I → Memory) → Reached w (cell (s .entries)) I mem → (e : Event) → Accepted n w e → (i : ℕ) → i < w → (b : Bool) →
+      NowMay n s e i b → (r : I) × (k : Choice w e) × Returns (observes w e k (mem r)) i b
+  now-reach s I mem R (writes c a d) q i h b t = absurd t
+  now-reach s I mem R (reads e a) q i h b t = let r = answer-reach n w (s .entries) I mem a e R (q .0) (q .1 .0) .reach i h b t in (r .0 .0, r .0 .1, r .1)
+  now-reach s I mem R (asserts c a d) q i h b t = absurd t
+  now-reach s I mem R (checks c a d) q i h b t = absurd t
+  now-reach s I mem R nothing q i h b t = absurd t
 
-pub reads-at : (n w : ℕ) (es : List Event) (s : Held) (ks : ℕ → Bool) (I : Type 0) (arr : I → Array) → Exact w (s .entries) I arr → AllAccepted n w s ks es →
-    (j i : ℕ) → i < w → (b : Bool) →
-    May n w s ks es j i b ↔ ((r : I × Choices w es) × Returns (outcomesFrom w es (arr (r .0)) (r .1) j) i b)
-reads-at n w [] s ks I arr E q j i h b = (λ t. absurd t, λ r. r .1)
-reads-at n w (writes c a d ∷ es) s ks I arr E q zero i h b = (λ t. absurd t, λ r. r .1)
-reads-at n w (reads e a ∷ es) s ks I arr E q zero i h b = (
-  λ t. let r = read-to n w (s .entries) I arr E e a (q .0 .0) (q .0 .1 .0) (q .0 .1 .1) i h b t in
-      ((r .0 .0, (r .0 .1, some-choices n w s (later ks) es (q .1))), r .1),
-  λ r. read-from n w (s .entries) I arr E e a (q .0 .0) (q .0 .1 .0) (q .0 .1 .1) i h b (r .0 .0, r .0 .1 .0) (r .1),
-)
-reads-at n w (asserts c a d ∷ es) s ks I arr E q zero i h b = (λ t. absurd t, λ r. r .1)
-reads-at n w (checks true a d ∷ es) s ks I arr E q zero i h b = (λ t. absurd t, λ r. r .1)
-reads-at n w (checks false a d ∷ es) s ks I arr E q zero i h b = (λ t. absurd t, λ r. r .1)
-reads-at n w (nothing ∷ es) s ks I arr E q zero i h b = (λ t. absurd t, λ r. r .1)
-reads-at n w (e ∷ es) s ks I arr E q (suc j) i h b =
-    let f = reads-at n w es (after n w s (ks zero) e) (later ks) (I × Choice w e) (λ r. next w e (r .1) (arr (r .0))) (step n w s I arr E (ks zero) e (q .0)) (q .1) j i h b in (
-      λ t. let r = f .0 t in ((r .0 .0 .0, (r .0 .0 .1, r .0 .1)), r .1),
-      λ r. f .1 (((r .0 .0, r .0 .1 .0), r .0 .1 .1), r .1),
-    )
+  pub bits-within : (es : List Event) (s : Held) (I : Type 0) (mem : I → Memory) → Admitted w (cell (s .entries)) I mem → AllAccepted n w es → (j i : ℕ) → i < w → (b : Bool)
+      (r : I) (ks : Choices w es) → Returns (observesFrom w es (mem r) ks j) i b → HeldMay n w s es j i b
+  bits-within [] s I mem A q j i h b r ks t = t
+  bits-within (e ∷ es) s I mem A q zero i h b r ks t = now-within s I mem A e (q .0) i h b r (ks .0) t
+  bits-within (e ∷ es) s I mem A q (suc j) i h b r ks t =
+      bits-within es (heldAfter n w s e) (I × Choice w e) (λ z. memoryAfter w e (z .1) (mem (z .0))) (step-admitted n w s I mem A e (q .0)) (q .1) j i h b (r, ks .0) (ks .1) t
 
--- a check, now
-check-to : (n w : ℕ) (es : List Entry) (I : Type 0) (arr : I → Array) → Exact w es I arr → (a d : List Pair) → length a ≡ n → length d ≡ w →
-    T (inside w (look n es a) (at d)) → (r : I) (x : Bits a) → T (admits d (arr r (x .0)))
-check-to n w es I arr E a d na wd t r x =
-    admits-all d (arr r (x .0)) (E .sized r (x .0) ∙ sym wd)
-    (λ i h.
-    let k : i < w = omega arith in
-    inside-to w (look n es a) (at d) t i k (bit (arr r (x .0)) i) (look-from n es a na x i (bit (arr r (x .0)) i) (E .sound r (x .0) i k)))
+  pub bits-reach : (es : List Event) (s : Held) (I : Type 0) (mem : I → Memory) → Reached w (cell (s .entries)) I mem → AllAccepted n w es → (j i : ℕ) → i < w → (b : Bool) →
+      HeldMay n w s es j i b → (r : I × Choices w es) × Returns (observesFrom w es (mem (r .0)) (r .1) j) i b
+  bits-reach [] s I mem R q j i h b t = absurd t
+  bits-reach (e ∷ es) s I mem R q zero i h b t = let r = now-reach s I mem R e (q .0) i h b t in ((r .0, (r .1, some-choices n w es (q .1))), r .2)
+  bits-reach (e ∷ es) s I mem R q (suc j) i h b t =
+      let r = bits-reach es (heldAfter n w s e) (I × Choice w e) (λ z. memoryAfter w e (z .1) (mem (z .0))) (step-reached n w s I mem R e (q .0)) (q .1) j i h b t in
+      ((r .0 .0 .0, (r .0 .0 .1, r .0 .1)), r .1)
 
-check-from : (n w : ℕ) (es : List Entry) (I : Type 0) (arr : I → Array) → Exact w es I arr → (a d : List Pair) → length d ≡ w →
-    ((r : I) (x : Bits a) → T (admits d (arr r (x .0)))) → T (inside w (look n es a) (at d))
-check-from n w es I arr E a d wd f =
-    inside-from w (look n es a) (at d)
-    (λ i h b t.
-    let x = look-to n es a i b t in
-    let r = E .exact (x .0 .0) i h b (x .1) in
-    subst (λ (c : Bool). T (admit (at d i) c)) (r .1) (admits-at d (arr (r .0) (x .0 .0)) (f (r .0) (x .0)) i (omega arith)))
+  -- the check condition
+  check-within : (s : Held) (I : Type 0) (mem : I → Memory) → Admitted w (cell (s .entries)) I mem → (a d : List Pair) → length a ≡ n → length d ≡ w →
+      T (inside w (look n (s .entries) a) (at d)) → (r : I) (x : Bits a) → T (admits d (mem r .cells (x .0)))
+  check-within s I mem A a d na wd t r x =
+      admits-all d (mem r .cells (x .0)) (A .cells (x .0) .sized r ∙ sym wd)
+      (λ i h.
+      let k : i < w = omega arith in
+      inside-to w (look n (s .entries) a) (at d) t i k (bit (mem r .cells (x .0)) i) (look-within n w (s .entries) I mem a A na r x i k))
 
-now : (n w : ℕ) (s : Held) (I : Type 0) (arr : I → Array) → Exact w (s .entries) I arr → (k : Bool) (e : Event) → Accepted n w s k e →
-    T ((after n w s k e) .condition) ↔ (T (s .condition) × ((r : I) (c : Choice w e) → Allowed (outcome w e c (arr r))))
-now n w s I arr E k (writes c a d) q = (λ t. (t, λ r k. tt), λ t. t .0)
-now n w s I arr E k (reads e a) q = (λ t. (t, λ r k. tt), λ t. t .0)
-now n w s I arr E true (asserts b a d) q = (λ t. (t, λ r k. tt), λ t. t .0)
-now n w s I arr E false (asserts b a d) q = (λ t. (t, λ r k. tt), λ t. t .0)
-now n w s I arr E k (checks true a d) q = (
-  λ t. (and-left (s .condition) C t, λ r x. check-to n w (s .entries) I arr E a d (q .0 .1) (q .1 .1) (and-right (s .condition) C t) r x),
-  λ t. and-both (s .condition) C (t .0) (check-from n w (s .entries) I arr E a d (q .1 .1) (t .1)),
-)
-  where
-    C : Bool
-    C = inside w (look n (s .entries) a) (at d)
-now n w s I arr E k (checks false a d) q = (λ t. (and-left (s .condition) true t, λ r k. tt), λ t. and-both (s .condition) true (t .0) tt)
-now n w s I arr E k nothing q = (λ t. (t, λ r k. tt), λ t. t .0)
+  check-reach : (s : Held) (I : Type 0) (mem : I → Memory) → Reached w (cell (s .entries)) I mem → (a d : List Pair) → length d ≡ w →
+      ((r : I) (x : Bits a) → T (admits d (mem r .cells (x .0)))) → T (inside w (look n (s .entries) a) (at d))
+  check-reach s I mem R a d wd f =
+      inside-from w (look n (s .entries) a) (at d)
+      (λ i h b t.
+      let r = look-reach n w (s .entries) I mem a R i h b t in
+      subst (λ (c : Bool). T (admit (at d i) c)) (r .2) (admits-at d (mem (r .0) .cells (r .1 .0)) (f (r .0) (r .1)) i (omega arith)))
 
-all-outcomes : (w : ℕ) (I : Type 0) (arr : I → Array) (e : Event) (es : List Event) →
-    ((r : I) (k : Choice w e) → Allowed (outcome w e k (arr r))) →
-    ((r : (I × Choice w e) × Choices w es) (j : ℕ) → Allowed (outcomesFrom w es (next w e (r .0 .1) (arr (r .0 .0))) (r .1) j)) →
-    (r : I × Choices w (e ∷ es)) (j : ℕ) → Allowed (outcomesFrom w (e ∷ es) (arr (r .0)) (r .1) j)
-all-outcomes w I arr e es f g r zero = f (r .0) (r .1 .0)
-all-outcomes w I arr e es f g r (suc j) = g ((r .0, r .1 .0), r .1 .1) j
+  now-allowed : (s : Held) (I : Type 0) (mem : I → Memory) → Admitted w (cell (s .entries)) I mem → (e : Event) → Accepted n w e →
+      T (heldAfter n w s e .condition) → T (s .condition) × ((r : I) (k : Choice w e) → Allowed (observes w e k (mem r)))
+  now-allowed s I mem A (writes c a d) q t = (t, λ r k. tt)
+  now-allowed s I mem A (reads e a) q t = (t, λ r k. tt)
+  now-allowed s I mem A (asserts b a d) q t = (t, λ r k. tt)
+  now-allowed s I mem A (checks true a d) q t = (
+    and-left (s .condition) (inside w (look n (s .entries) a) (at d)) t,
+    λ r x. check-within s I mem A a d (q .0 .1) (q .1 .1) (and-right (s .condition) (inside w (look n (s .entries) a) (at d)) t) r x,
+  )
+  now-allowed s I mem A (checks false a d) q t = (and-left (s .condition) true t, λ r k. tt)
+  now-allowed s I mem A nothing q t = (t, λ r k. tt)
 
-pub checks-at : (n w : ℕ) (es : List Event) (s : Held) (ks : ℕ → Bool) (I : Type 0) (arr : I → Array) → Exact w (s .entries) I arr → AllAccepted n w s ks es →
-    T ((final n w s ks es) .condition) ↔ (T (s .condition) × ((r : I × Choices w es) (j : ℕ) → Allowed (outcomesFrom w es (arr (r .0)) (r .1) j)))
-checks-at n w [] s ks I arr E q = (λ t. (t, λ r j. tt), λ t. t .0)
-checks-at n w (e ∷ es) s ks I arr E q =
-    let rest = checks-at n w es (after n w s (ks zero) e) (later ks) (I × Choice w e) (λ r. next w e (r .1) (arr (r .0))) (step n w s I arr E (ks zero) e (q .0)) (q .1) in
-    let first = now n w s I arr E (ks zero) e (q .0) in (
-      λ t. let u = rest .0 t in let v = first .0 (u .0) in (v .0, all-outcomes w I arr e es (v .1) (u .1)),
-      λ t. rest .1 (
-        first .1 (t .0, λ r k. t .1 (r, (k, some-choices n w (after n w s (ks zero) e) (later ks) es (q .1))) zero),
-        λ r j. t .1 (r .0 .0, (r .0 .1, r .1)) (suc j),
-      ),
-    )
+  now-condition : (s : Held) (I : Type 0) (mem : I → Memory) → Reached w (cell (s .entries)) I mem → (e : Event) → Accepted n w e →
+      T (s .condition) → ((r : I) (k : Choice w e) → Allowed (observes w e k (mem r))) → T (heldAfter n w s e .condition)
+  now-condition s I mem R (writes c a d) q t f = t
+  now-condition s I mem R (reads e a) q t f = t
+  now-condition s I mem R (asserts b a d) q t f = t
+  now-condition s I mem R (checks true a d) q t f = and-both (s .condition) (inside w (look n (s .entries) a) (at d)) t (check-reach s I mem R a d (q .1 .1) f)
+  now-condition s I mem R (checks false a d) q t f = and-both (s .condition) true t tt
+  now-condition s I mem R nothing q t f = t
+
+  all-allowed : (I : Type 0) (mem : I → Memory) (e : Event) (es : List Event) →
+      ((r : I) (k : Choice w e) → Allowed (observes w e k (mem r))) →
+      ((r : (I × Choice w e) × Choices w es) (j : ℕ) → Allowed (observesFrom w es (memoryAfter w e (r .0 .1) (mem (r .0 .0))) (r .1) j)) →
+      (r : I × Choices w (e ∷ es)) (j : ℕ) → Allowed (observesFrom w (e ∷ es) (mem (r .0)) (r .1) j)
+  all-allowed I mem e es f g r zero = f (r .0) (r .1 .0)
+  all-allowed I mem e es f g r (suc j) = g ((r .0, r .1 .0), r .1 .1) j
+
+  pub allowed-at : (es : List Event) (s : Held) (I : Type 0) (mem : I → Memory) → Admitted w (cell (s .entries)) I mem → AllAccepted n w es →
+      T (heldAfterAll n w s es .condition) → T (s .condition) × ((r : I × Choices w es) (j : ℕ) → Allowed (observesFrom w es (mem (r .0)) (r .1) j))
+  allowed-at [] s I mem A q t = (t, λ r j. tt)
+  allowed-at (e ∷ es) s I mem A q t =
+      let u = allowed-at es (heldAfter n w s e) (I × Choice w e) (λ r. memoryAfter w e (r .1) (mem (r .0))) (step-admitted n w s I mem A e (q .0)) (q .1) t in
+      let v = now-allowed s I mem A e (q .0) (u .0) in
+      (v .0, all-allowed I mem e es (v .1) (u .1))
+
+  pub condition-at : (es : List Event) (s : Held) (I : Type 0) (mem : I → Memory) → Reached w (cell (s .entries)) I mem → AllAccepted n w es →
+      T (s .condition) → ((r : I × Choices w es) (j : ℕ) → Allowed (observesFrom w es (mem (r .0)) (r .1) j)) → T (heldAfterAll n w s es .condition)
+  condition-at [] s I mem R q t f = t
+  condition-at (e ∷ es) s I mem R q t f =
+      condition-at es (heldAfter n w s e) (I × Choice w e) (λ r. memoryAfter w e (r .1) (mem (r .0))) (step-reached n w s I mem R e (q .0)) (q .1)
+      (now-condition s I mem R e (q .0) t (λ r k. f (r, (k, some-choices n w es (q .1))) zero))
+      (λ r j. f (r .0 .0, (r .0 .1, r .1)) (suc j))
 
 -- from no entries, over the whole list
-module _ (n w : ℕ) (ks : ℕ → Bool) (es : List Event) (q : AllAccepted n w none ks es) where
-  pub reads-exact : (j i : ℕ) → i < w → (b : Bool) → May n w none ks es j i b ↔ ((r : Run w es) × Returns (outcomesFrom w es (r .0 .0) (r .1) j) i b)
-  reads-exact = reads-at n w es none ks (Start w) (λ r. r .0) (start w) q
+module _ (n w : ℕ) (es : List Event) (q : AllAccepted n w es) where
+  pub reads-exact : (j i : ℕ) → i < w → (b : Bool) → HeldMay n w holdsNothing es j i b ↔ ((r : Run w es) × Returns (observesFrom w es (r .0 .0) (r .1) j) i b)
+  reads-exact j i h b = (
+    λ t. bits-reach n w es holdsNothing (Start w) (λ r. r .0) (start-reached w) q j i h b t,
+    λ r. bits-within n w es holdsNothing (Start w) (λ r. r .0) (start-admitted w) q j i h b (r .0 .0) (r .0 .1) (r .1),
+  )
 
-  pub checks-exact : T ((final n w none ks es) .condition) ↔ ((r : Run w es) (j : ℕ) → Allowed (outcomesFrom w es (r .0 .0) (r .1) j))
-  checks-exact =
-      let c = checks-at n w es none ks (Start w) (λ r. r .0) (start w) q in
-      (λ t. (c .0 t) .1, λ f. c .1 (tt, f))
+  pub checks-exact : T (heldAfterAll n w holdsNothing es .condition) ↔ ((r : Run w es) (j : ℕ) → Allowed (observesFrom w es (r .0 .0) (r .1) j))
+  checks-exact = (
+    λ t. (allowed-at n w es holdsNothing (Start w) (λ r. r .0) (start-admitted w) q t) .1,
+    λ f. condition-at n w es holdsNothing (Start w) (λ r. r .0) (start-reached w) q tt f,
+  )

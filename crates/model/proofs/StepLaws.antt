@@ -1,16 +1,15 @@
 -- One call: the state goes on holding, under one 64-bit assignment, what the published accesses make of the values.
 use mathlib.Core.Path.{_≡_, refl, sym, ap, _∙_, subst}
 use mathlib.Core.Logic.{_↔_}
-use mathlib.Core.Bool.{Bool, true, false, cond, not, _&&_, _||_}
+use mathlib.Core.Bool.{Bool, true, false, cond, not, _&&_, _||_, false≢true}
 use mathlib.Core.List.{List, [], _∷_, _++_}
 use Prim.Native.Nat.{ℕ, zero, suc, _+_, _*_, _^_, _<_, _≤_}
 use native.Mathlib.Omega.{arith}
 use native.Mathlib.Decide.{decLt}
-use lib.Dec.{T, eqb, ltb, leb}
+use lib.Dec.{T, eqb}
 use lib.ListN.{length, getD, length-append, List·getD-append}
 use lib.Seq.{getD-at}
-use borrow.Author.Tests.{eqb-true, ltb-true, leb-true}
-use Rattle.nodes.specs.Search.{every}
+use borrow.Author.Tests.{eqb-true, ltb-true}
 use Rattle.nodes.specs.Standard.{Standard}
 use Rattle.nodes.specs.Clear.{clearOf}
 use Rattle.nodes.proofs.BoolLaws.{split, and-both}
@@ -20,34 +19,60 @@ use Rattle.conditions.specs.Make.{Variable}
 use Rattle.conditions.specs.Ite.{Ite}
 use Rattle.conditions.specs.Value.{value}
 use Rattle.conditions.specs.Assignment.{bitAt}
-use Rattle.conditions.specs.User.{isUser}
 use Rattle.conditions.specs.Meaning.{Stands, Builds}
-use Rattle.conditions.proofs.Promises.{standard-is, clear-keep, stands-value, value-1, user-is}
+use Rattle.conditions.proofs.Promises.{clear-keep, stands-value, value-1}
 use Rattle.model.specs.Pairs.{Pair, legals, admit, unique, at}
-use Rattle.model.specs.Record.{Record, size, entryAt, appended, listCapacity}
+use Rattle.model.specs.Record.{Record, withCount, withEntries, withAsserted, withChecked, entryAt, appended, listCapacity}
 use Rattle.model.specs.Access.{Marks, Write, Read, Asserted, Assert, Check}
-use Rattle.model.specs.Rows.{users, legalPairs, row3, row8, writeRows, readRows, assertRows, checkRows, variableRows, iteRows}
-use Rattle.model.specs.Step.{State, Call, write, read, assert, check, evaluate, variable, ite, Answer, refused, place, filled, entered, kept, accepted, valued, node, Result, refusal, turnedDown, cleared, orNine, begin, grown, withChecked, withAsserted, withEntry, enter, act, unless, step}
+use Rattle.model.specs.Rows.{row8}
+use Rattle.model.specs.Step.{State, write, read, assert, check, NodeCall, evaluate, variable, ite, Call, access, nodeCall, Given, place, filled, entered, kept, accepted, valued, node, Answer, refused, done, Result, refusal, turnedDown, cleared, Finish, full, short, gives, closed, unlessFull, begin, grown, withEntry, withAssertCondition, withCheckCondition, assertFirst, enter, finishAccess, finishNode, finish, unlessRefused, step}
 use Rattle.model.specs.Published.{Entry, entry, answer, checkHolds, assertHolds, control, keeps}
 use Rattle.model.specs.Array.{Event, writes, reads, asserts, checks, nothing}
+use Rattle.model.specs.Held.{Held, add, heldAfter, NowMay, Accepted}
 use Rattle.model.specs.Claims.{pairAt, pairs, event, BitMay}
+use Rattle.model.specs.Table.{CheckFacts, AssertFacts}
 use Rattle.model.proofs.PairLaws.{eq→T}
-use Rattle.model.proofs.Held.{Held, add, after, Accepted, May}
-use Rattle.model.proofs.MeansLaws.{Means, means-as, up, user-means, near-self, ite-means, variable-means}
-use Rattle.model.proofs.HalfLaws.{halfOf, half-even, half-odd}
-use Rattle.model.proofs.AccessLaws.{Halves, EntryMeans, noEntry, EntriesMean, up-halves, up-entries, MarksMean, write-means, Word, read-means, check-means, AssertedMean, assert-means}
+use Rattle.model.proofs.KeptLaws.{SameHeld, same-after, same-kept}
+use Rattle.model.proofs.MeansLaws.{Means, up, near-self, ite-means, variable-means}
+use Rattle.model.proofs.HalfLaws.{half-even, half-odd}
+use Rattle.model.proofs.AccessLaws.{Halves, EntryMeans, noEntry, EntriesMean, up-halves, up-entries, MarksMean, write-means, read-means, check-means, AssertedMean, assert-means}
 use Rattle.model.proofs.ListLaws.{new-address, new-data, entry-old, entry-new}
-use Rattle.model.proofs.RowLaws.{rows-hold, row1-n, length-pairs, users-halves, pair-legal, pairs-legal, pairs-unique}
+use Rattle.model.proofs.FactLaws.{space-room, write-facts, read-facts, check-facts, assert-facts, variable-facts, ite-facts}
+use Rattle.model.proofs.RowLaws.{length-pairs, name-means, names-halves, pair-legal, pairs-legal, pairs-unique}
+
+abbrev givesKept : Given → Bool
+givesKept (place k) = false
+givesKept (filled r) = false
+givesKept entered = false
+givesKept kept = true
+givesKept accepted = false
+givesKept (valued b) = false
+givesKept (node n) = false
 
 abbrev pub isKept : Answer → Bool
 isKept (refused k) = false
-isKept (place k) = false
-isKept (filled r) = false
-isKept entered = false
-isKept kept = true
-isKept accepted = false
-isKept (valued b) = false
-isKept (node n) = false
+isKept (done g) = givesKept g
+
+-- what the list holds after a call: that of the published run, but for an assert that is kept
+abbrev pub listAfter : ℕ → ℕ → Held → Bool → Event → Held
+listAfter n w h k e = cond k h (heldAfter n w h e)
+
+-- an assert that may be kept
+abbrev pub KeepsEvent : ℕ → ℕ → Held → Event → Type 0
+KeepsEvent n w h (writes c a d) = ⊥
+KeepsEvent n w h (reads e a) = ⊥
+KeepsEvent n w h (asserts b a d) = T (keeps n w (h .entries) b a d)
+KeepsEvent n w h (checks b a d) = ⊥
+KeepsEvent n w h nothing = ⊥
+
+-- a list that leaves out what it keeps goes on telling the same as the published run
+pub same-list : (n w : ℕ) (s t : Held) → SameHeld w s t → (k : Bool) (e : Event) → Accepted n w e → (k ≡ true → KeepsEvent n w s e) → SameHeld w (listAfter n w s k e) (heldAfter n w t e)
+same-list n w s t S false e q f = same-after n w s t S e
+same-list n w s t S true (writes c a d) q f = absurd (f refl)
+same-list n w s t S true (reads e a) q f = absurd (f refl)
+same-list n w s t S true (asserts b a d) q f = same-kept n w s t S b a d q (f refl)
+same-list n w s t S true (checks b a d) q f = absurd (f refl)
+same-list n w s t S true nothing q f = absurd (f refl)
 
 -- the state's entries and check condition mean these
 pub record Holds (σ : ℕ → Bool) (s : State) (h : Held) : Type 0 where
@@ -58,19 +83,19 @@ pub record Holds (σ : ℕ → Bool) (s : State) (h : Held) : Type 0 where
 pub record Follows (σ : ℕ → Bool) (s : State) (h : Held) (c : Call) (x : Result) : Type 0 where
   pub same-n : x .after .rec .n ≡ s .rec .n
   pub same-w : x .after .rec .w ≡ s .rec .w
-  pub accepted : Accepted (s .rec .n) (s .rec .w) h (isKept (x .answer)) (event σ s c (x .answer))
-  pub holds : Holds σ (x .after) (after (s .rec .n) (s .rec .w) h (isKept (x .answer)) (event σ s c (x .answer)))
-  pub bits : (ks : ℕ → Bool) (es : List Event) (i : ℕ) → i < s .rec .w → (b : Bool) → BitMay σ (x .after .words) (x .answer) i b ↔ May (s .rec .n) (s .rec .w) h ks (event σ s c (x .answer) ∷ es) zero i b
+  pub accepted : Accepted (s .rec .n) (s .rec .w) (event σ s c (x .answer))
+  pub keeping : isKept (x .answer) ≡ true → KeepsEvent (s .rec .n) (s .rec .w) h (event σ s c (x .answer))
+  pub holds : Holds σ (x .after) (listAfter (s .rec .n) (s .rec .w) h (isKept (x .answer)) (event σ s c (x .answer)))
+  pub bits : (i : ℕ) → i < s .rec .w → (b : Bool) → BitMay σ (x .after .words) (x .answer) i b ↔ NowMay (s .rec .n) h (event σ s c (x .answer)) i b
 
 -- the meanings of entries do not turn on the record's other fields
-entries-at : {σ : ℕ → Bool} {es : List Entry} {w : List ℕ} {s : Store} {l : List ℕ} (r : Record) (c a k : ℕ) → EntriesMean σ r es w s l
-    → EntriesMean σ (record { n = r .n; w = r .w; count = c; entries = r .entries; asserted = a; checked = k }) es w s l
+entries-at : {σ : ℕ → Bool} {es : List Entry} {w : List ℕ} {s : Store} {l : List ℕ} (r : Record) (c a k : ℕ) → EntriesMean σ r es w s l → EntriesMean σ (withChecked (withAsserted (withCount r c) a) k) es w s l
 entries-at r c a k E = record { count = E .count; at = λ j h. let M = E .at j h in record { hard = M .hard; soft = M .soft; address = M .address; word = M .word; sized = M .sized } }
 
 -- one entry more
 entries-more : {σ : ℕ → Bool} {es : List Entry} {w : List ℕ} {s : Store} (r : Record) (l : List ℕ) (m : Marks) (a d : List ℕ) (e : Entry) → length a ≡ 2 * r .n → length d ≡ 2 * r .w → r .entries < listCapacity r l
     → EntriesMean σ r es w s l → MarksMean σ e w s m → Halves σ 8 (2 * r .n) (λ τ. at (e .address)) w s a → Halves σ 8 (2 * r .w) (λ τ. at (e .word)) w s d → length (e .address) ≡ r .n
-    → EntriesMean σ (record { n = r .n; w = r .w; count = r .count; entries = r .entries + 1; asserted = r .asserted; checked = r .checked }) (es ++ (e ∷ [])) w s (appended r l (m .hard) (m .soft) a d)
+    → EntriesMean σ (withEntries r (r .entries + 1)) (es ++ (e ∷ [])) w s (appended r l (m .hard) (m .soft) a d)
 entries-more {σ} {es} {w} {s} r l m a d e na wd room E M A D len =
     record {
       count = length-append es (e ∷ []) ∙ (let z = E .count in omega arith);
@@ -81,7 +106,7 @@ entries-more {σ} {es} {w} {s} r l m a d e na wd room E M A D len =
     new = record { hard = M .hard; soft = M .soft; address = rw (new-address r (m .hard) (m .soft) a d na wd) A; word = rw (new-data r (m .hard) (m .soft) a d na wd) D; sized = len }
 
     go : (j : ℕ) → Dec (j < r .entries) → j < r .entries + 1
-        → EntryMeans σ (record { n = r .n; w = r .w; count = r .count; entries = r .entries + 1; asserted = r .asserted; checked = r .checked }) (getD (es ++ (e ∷ [])) j noEntry) w s (entryAt r (appended r l (m .hard) (m .soft) a d) j)
+        → EntryMeans σ (withEntries r (r .entries + 1)) (getD (es ++ (e ∷ [])) j noEntry) w s (entryAt r (appended r l (m .hard) (m .soft) a d) j)
     go j (yes p) h =
         let M = E .at j p in
         rw (entry-old r l (m .hard) (m .soft) a d na wd room j p, List·getD-append es (e ∷ []) noEntry j (omega (arith, E .count)))
@@ -98,7 +123,7 @@ free-store P s e p = subst P (λ i. record { count = s .count; full = e i }) p
 module _ (σ : ℕ → Bool) (s : State) (h : Held) (H : Holds σ s h) (c : Call) where
   -- a refusal that leaves everything
   turned-follows : (k : ℕ) → Follows σ s h c (turnedDown k s)
-  turned-follows k = record { same-n = refl; same-w = refl; accepted = tt; holds = H; bits = λ ks es i l b. (λ z. z, λ z. z) }
+  turned-follows k = record { same-n = refl; same-w = refl; accepted = tt; keeping = λ z. absurd (false≢true z); holds = H; bits = λ i l b. (λ z. z, λ z. z) }
 
   module _ (S : Standard (s .words) (s .rec .count)) where
     clear-means : {u n : ℕ} {μ : (ℕ → Bool) → Bool} → Means σ u μ (s .words) (begin (s .rec)) n → Means σ u μ (clearOf (s .words) (s .rec .count)) (begin (s .rec)) n
@@ -116,6 +141,7 @@ module _ (σ : ℕ → Bool) (s : State) (h : Held) (H : Holds σ s h) (c : Call
           same-n = refl;
           same-w = refl;
           accepted = tt;
+          keeping = λ z. absurd (false≢true z);
           holds = record {
             entries = record {
               count = H .entries .count;
@@ -125,12 +151,12 @@ module _ (σ : ℕ → Bool) (s : State) (h : Held) (H : Holds σ s h) (c : Call
             };
             checked = clear-means (H .checked);
           };
-          bits = λ ks es i l b. (λ z. z, λ z. z);
+          bits = λ i l b. (λ z. z, λ z. z);
         }
 
     -- a program, and what follows it where the store is not full
-    nine-follows : {A : Type 0} (x : Outcome A) (k : A → List ℕ → ℕ → Result) → (x .store .full ≡ false → Follows σ s h c (k (x .answer) (x .words) (x .store .count))) → Follows σ s h c (orNine s x k)
-    unfolding orNine
+    nine-follows : {A : Type 0} (x : Outcome A) (k : A → List ℕ → ℕ → Finish) → (x .store .full ≡ false → Follows σ s h c (closed s (k (x .answer) (x .words) (x .store .count)))) → Follows σ s h c (closed s (unlessFull x k))
+    unfolding unlessFull closed
     nine-follows x k f = split (x .store .full) (λ t. rw t (cleared-follows 9)) (λ e. rw e (f e))
 
     module _ {A : Type 0} {P : List ℕ → Store → A → Type 0} {x : Outcome A} (X : Builds (s .words) (begin (s .rec)) P x) (e : x .store .full ≡ false) where
@@ -147,9 +173,6 @@ module _ (σ : ℕ → Bool) (s : State) (h : Held) (H : Holds σ s h) (c : Call
 pub pair-is : (p q : Pair) → p .h ≡ q .h → p .l ≡ q .l → p ≡ q
 pair-is p q a b = λ i. record { h = a i; l = b i }
 
-pub and3 : (a b c : Bool) → (a && b && c) ≡ true → (a ≡ true) × (b ≡ true) × (c ≡ true)
-and3 a b c e = let p = and-both (a && b) c e in let q = and-both a b (p .0) in (q .0, q .1, p .1)
-
 iff-admit : (p q : Pair) (b : Bool) → p ≡ q → T (admit p b) ↔ T (admit q b)
 iff-admit p q b e = (λ z. subst (λ (x : Pair). T (admit x b)) e z, λ z. subst (λ (x : Pair). T (admit x b)) (sym e) z)
 
@@ -157,109 +180,93 @@ module _ (k : ℕ) (small : k < 2 ^ 64) (s : State) (h : Held) (H : Holds (bitAt
   abbrev σ : ℕ → Bool
   σ = bitAt k
 
-  write-follows : (c a d : List ℕ) → refusal (write c a d) s ≡ 0 → Follows σ s h (write c a d) (act (write c a d) s)
-  unfolding act listCapacity
+  write-follows : (c a d : List ℕ) → refusal (access (write c a d)) s ≡ 0 → Follows σ s h (access (write c a d)) (closed s (finish (access (write c a d)) s))
+  unfolding finishAccess closed listCapacity
   write-follows c a d e =
-      let Q = rows-hold (writeRows (s .rec) (s .words) (s .list) c a d) refl e in
-      let S = standard-is (s .words) (s .rec .count) (Q .1 .0) in
-      let U = users (s .rec) (s .words) in
-      let G = legalPairs (s .rec) (s .words) in
-      let l4 = and3 (eqb (length c) 2) (eqb (length a) (2 * s .rec .n)) (eqb (length d) (2 * s .rec .w)) (Q .1 .1 .1 .0) in
-      let l5 = and3 (U c) (U a) (U d) (Q .1 .1 .1 .1 .0) in
-      let l6 = and3 (G c 1) (G a (s .rec .n)) (G d (s .rec .w)) (Q .1 .1 .1 .1 .1 .0) in
-      let nc : length c ≡ 2 = eqb-true _ _ (l4 .0) in
-      let na : length a ≡ 2 * s .rec .n = eqb-true _ _ (l4 .1) in
-      let wd : length d ≡ 2 * s .rec .w = eqb-true _ _ (l4 .2) in
-      let C = users-halves σ (s .rec) (s .words) S c 1 nc (l5 .0) in
-      let A = users-halves σ (s .rec) (s .words) S a (s .rec .n) na (l5 .1) in
-      let D = users-halves σ (s .rec) (s .words) S d (s .rec .w) wd (l5 .2) in
+      let F = write-facts s c a d e in
+      let S = F .memory .standard in
+      let C = names-halves σ (s .rec) (s .words) S c 1 (F .enable .names) in
+      let A = names-halves σ (s .rec) (s .words) S a (s .rec .n) (F .address .names) in
+      let D = names-halves σ (s .rec) (s .words) S d (s .rec .w) (F .word .names) in
       let p = pairAt σ (s .words) c 0 in
       let qs = pairs σ (s .words) a (s .rec .n) in
       let ds = pairs σ (s .words) d (s .rec .w) in
       let lq = length-pairs σ (s .words) a 0 (s .rec .n) in
       let X = write-means (s .rec .n) (getD c 0 0) (getD c 1 0) a p qs ds lq (s .words) (begin (s .rec)) S (C .half 0 (omega arith)) (C .half 1 (omega arith)) A in
       let x = Write (s .rec .n) (getD c 0 0) (getD c 1 0) a (s .words) (begin (s .rec)) in
-      nine-follows σ s h H (write c a d) S x _
+      nine-follows σ s h H (access (write c a d)) S x _
       (λ e. record {
         same-n = refl;
         same-w = refl;
         accepted = (
-          pair-legal k small (s .rec) (s .words) S c 1 nc (l5 .0) (l6 .0) 0 (omega arith),
-          (pairs-legal k small (s .rec) (s .words) S a (s .rec .n) na (l5 .1) (l6 .1), lq),
-          (pairs-legal k small (s .rec) (s .words) S d (s .rec .w) wd (l5 .2) (l6 .2), length-pairs σ (s .words) d 0 (s .rec .w)),
+          pair-legal k small (s .rec) (s .words) c 1 (F .enable .legal) 0 (omega arith),
+          (pairs-legal k small (s .rec) (s .words) a (s .rec .n) (F .address .legal), lq),
+          (pairs-legal k small (s .rec) (s .words) d (s .rec .w) (F .word .legal), length-pairs σ (s .words) d 0 (s .rec .w)),
         );
+        keeping = λ z. absurd (false≢true z);
         holds = record {
-          entries = entries-more (grown s (x .words) (x .store .count) .rec) (s .list) (x .answer) a d (entry p qs ds) na wd (ltb-true _ _ (Q .1 .1 .1 .1 .1 .1 .0)) (grown-holds σ s h H (write c a d) S X e .entries)
+          entries = entries-more (grown s (x .words) (x .store .count) .rec) (s .list) (x .answer) a d (entry p qs ds) (F .address .long) (F .word .long) (space-room (s .rec) (s .words) (s .list) (F .space)) (grown-holds σ s h H (access (write c a d)) S X e .entries)
               (free-store (λ (t : Store). MarksMean σ (entry p qs ds) (x .words) t (x .answer)) (x .store) e (X .post))
               (free-store (λ (t : Store). Halves σ 8 (2 * s .rec .n) (λ τ. at qs) (x .words) t a) (x .store) e (up-halves S X A))
               (free-store (λ (t : Store). Halves σ 8 (2 * s .rec .w) (λ τ. at ds) (x .words) t d) (x .store) e (up-halves S X D))
               lq;
-          checked = grown-checked σ s h H (write c a d) S X e;
+          checked = grown-checked σ s h H (access (write c a d)) S X e;
         };
-        bits = λ ks es i l b. (λ z. z, λ z. z);
+        bits = λ i l b. (λ z. z, λ z. z);
       })
 
-  read-follows : (en a out : List ℕ) → refusal (read en a out) s ≡ 0 → Follows σ s h (read en a out) (act (read en a out) s)
-  unfolding act
+  read-follows : (en a out : List ℕ) → refusal (access (read en a out)) s ≡ 0 → Follows σ s h (access (read en a out)) (closed s (finish (access (read en a out)) s))
+  unfolding finishAccess closed
   read-follows en a out e =
-      let Q = rows-hold (readRows (s .rec) (s .words) (s .list) en a out) refl e in
-      let S = standard-is (s .words) (s .rec .count) (Q .1 .0) in
-      let l4 = and3 (eqb (length en) 2) (eqb (length a) (2 * s .rec .n)) (eqb (length out) (2 * s .rec .w)) (Q .1 .1 .1 .0) in
-      let l5 = and-both _ _ (Q .1 .1 .1 .1 .0) in
-      let l6 = and-both _ _ (Q .1 .1 .1 .1 .1 .0) in
-      let nc : length en ≡ 2 = eqb-true _ _ (l4 .0) in
-      let na : length a ≡ 2 * s .rec .n = eqb-true _ _ (l4 .1) in
-      let C = users-halves σ (s .rec) (s .words) S en 1 nc (l5 .0) in
-      let A = users-halves σ (s .rec) (s .words) S a (s .rec .n) na (l5 .1) in
+      let F = read-facts s en a out e in
+      let S = F .memory .standard in
+      let C = names-halves σ (s .rec) (s .words) S en 1 (F .enable .names) in
+      let A = names-halves σ (s .rec) (s .words) S a (s .rec .n) (F .address .names) in
       let p = pairAt σ (s .words) en 0 in
       let qs = pairs σ (s .words) a (s .rec .n) in
       let lq = length-pairs σ (s .words) a 0 (s .rec .n) in
-      let X = read-means (s .rec) (s .list) (row1-n (s .rec) (s .words) (Q .0)) (h .entries) (getD en 0 0) (getD en 1 0) a p qs lq (s .words) (begin (s .rec)) S (H .entries) (C .half 0 (omega arith)) (C .half 1 (omega arith)) A in
+      let X = read-means (s .rec) (s .list) (F .memory .range .n-most) (h .entries) (getD en 0 0) (getD en 1 0) a p qs lq (s .words) (begin (s .rec)) S (H .entries) (C .half 0 (omega arith)) (C .half 1 (omega arith)) A in
       let x = Read (s .rec) (s .list) (getD en 0 0) (getD en 1 0) a (s .words) (begin (s .rec)) in
-      nine-follows σ s h H (read en a out) S x _
+      nine-follows σ s h H (access (read en a out)) S x _
       (λ e. record {
         same-n = refl;
         same-w = refl;
-        accepted = (pair-legal k small (s .rec) (s .words) S en 1 nc (l5 .0) (l6 .0) 0 (omega arith), (pairs-legal k small (s .rec) (s .words) S a (s .rec .n) na (l5 .1) (l6 .1), lq));
-        holds = grown-holds σ s h H (read en a out) S X e;
-        bits = λ ks es i l b.
+        accepted = (pair-legal k small (s .rec) (s .words) en 1 (F .enable .legal) 0 (omega arith), (pairs-legal k small (s .rec) (s .words) a (s .rec .n) (F .address .legal), lq));
+        keeping = λ z. absurd (false≢true z);
+        holds = grown-holds σ s h H (access (read en a out)) S X e;
+        bits = λ i l b.
             let f = answer (s .rec .n) (h .entries) p qs in
             let W = X .post .halves in
             iff-admit (pairAt σ (x .words) (x .answer) i) (f i) b
             (pair-is (pairAt σ (x .words) (x .answer) i) (f i) (W .half (2 * i) (omega arith) .is e σ (near-self σ) ∙ half-even i f) (W .half (2 * i + 1) (omega arith) .is e σ (near-self σ) ∙ half-odd i f));
       })
 
-  check-follows : (b : ℕ) (a d : List ℕ) → refusal (check b a d) s ≡ 0 → Follows σ s h (check b a d) (act (check b a d) s)
-  unfolding act
+  check-follows : (b : ℕ) (a d : List ℕ) → refusal (access (check b a d)) s ≡ 0 → Follows σ s h (access (check b a d)) (closed s (finish (access (check b a d)) s))
+  unfolding finishAccess closed
   check-follows b a d e =
-      let Q = rows-hold (checkRows (s .rec) (s .words) (s .list) b a d) refl e in
-      let S = standard-is (s .words) (s .rec .count) (Q .1 .0) in
-      let l4 = and-both _ _ (Q .1 .1 .1 .0) in
-      let U = users (s .rec) (s .words) in
-      let l5 = and3 (isUser (s .words) (s .rec .count) b) (U a) (U d) (Q .1 .1 .1 .1 .0) in
-      let l6 = and-both _ _ (Q .1 .1 .1 .1 .1 .0) in
-      let na : length a ≡ 2 * s .rec .n = eqb-true _ _ (l4 .0) in
-      let wd : length d ≡ 2 * s .rec .w = eqb-true _ _ (l4 .1) in
-      let A = users-halves σ (s .rec) (s .words) S a (s .rec .n) na (l5 .1) in
-      let D = users-halves σ (s .rec) (s .words) S d (s .rec .w) wd (l5 .2) in
+      let F = check-facts s b a d e in
+      let S = F .memory .standard in
+      let A = names-halves σ (s .rec) (s .words) S a (s .rec .n) (F .address .names) in
+      let D = names-halves σ (s .rec) (s .words) S d (s .rec .w) (F .word .names) in
       let qs = pairs σ (s .words) a (s .rec .n) in
       let ds = pairs σ (s .words) d (s .rec .w) in
       let lq = length-pairs σ (s .words) a 0 (s .rec .n) in
-      let X = check-means (s .rec) (s .list) (row1-n (s .rec) (s .words) (Q .0)) (h .entries) b (value (s .words) σ b) (h .condition) a d qs ds lq (s .words) (begin (s .rec)) S (H .entries) (user-means {s = begin (s .rec)} S (l5 .0)) A D (H .checked) in
+      let X = check-means (s .rec) (s .list) (F .memory .range .n-most) (h .entries) b (value (s .words) σ b) (h .condition) a d qs ds lq (s .words) (begin (s .rec)) S (H .entries) (name-means σ (s .rec) (s .words) S (F .control)) A D (H .checked) in
       let x = Check (s .rec) (s .list) b a d (s .words) (begin (s .rec)) in
-      nine-follows σ s h H (check b a d) S x _
+      nine-follows σ s h H (access (check b a d)) S x _
       (λ e. record {
         same-n = refl;
         same-w = refl;
-        accepted = ((pairs-legal k small (s .rec) (s .words) S a (s .rec .n) na (l5 .1) (l6 .0), lq), (pairs-legal k small (s .rec) (s .words) S d (s .rec .w) wd (l5 .2) (l6 .1), length-pairs σ (s .words) d 0 (s .rec .w)));
+        accepted = ((pairs-legal k small (s .rec) (s .words) a (s .rec .n) (F .address .legal), lq), (pairs-legal k small (s .rec) (s .words) d (s .rec .w) (F .word .legal), length-pairs σ (s .words) d 0 (s .rec .w)));
+        keeping = λ z. absurd (false≢true z);
         holds = record {
-          entries = entries-at (s .rec) (x .store .count) (s .rec .asserted) (x .answer) (grown-entries σ s h H (check b a d) S X e);
+          entries = entries-at (s .rec) (x .store .count) (s .rec .asserted) (x .answer) (grown-entries σ s h H (access (check b a d)) S X e);
           checked = free-store (λ (t : Store). Means σ 8 (λ τ. h .condition && checkHolds (s .rec .n) (s .rec .w) (h .entries) (value (s .words) σ b) qs ds) (x .words) t (x .answer)) (x .store) e (X .post);
         };
-        bits = λ ks es i l b. (λ z. z, λ z. z);
+        bits = λ i l b. (λ z. z, λ z. z);
       })
 
-  module _ (b : ℕ) (a d : List ℕ) (e : refusal (assert b a d) s ≡ 0) where
+  module _ (b : ℕ) (a d : List ℕ) (e : refusal (access (assert b a d)) s ≡ 0) where
     abbrev r : Record
     r = s .rec
 
@@ -275,46 +282,23 @@ module _ (k : ℕ) (small : k < 2 ^ 64) (s : State) (h : Held) (H : Holds (bitAt
     abbrev κ : Bool
     κ = value (s .words) σ (r .asserted)
 
-    -- what the rows leave
-    record Asked : Type 0 where
-      few : r .n ≤ 8
-      standard : Standard (s .words) (r .count)
-      address : length a ≡ 2 * r .n
-      word : length d ≡ 2 * r .w
-      condition : Means σ 8 (λ τ. κ) (s .words) (begin r) (r .asserted)
-      control : Means σ 8 (λ τ. β) (s .words) (begin r) b
-      addresses : Halves σ 8 (2 * r .n) (λ τ. at qs) (s .words) (begin r) a
-      datas : Halves σ 8 (2 * r .w) (λ τ. at ds) (s .words) (begin r) d
-      legal-address : T (legals qs)
-      legal-data : T (legals ds)
-      one-address : T (not β || unique qs)
+    facts : AssertFacts s b a d
+    facts = assert-facts s b a d e
 
-    asked : Asked
-    unfolding row3
-    asked =
-        let Q = rows-hold (assertRows r (s .words) (s .list) b a d) refl e in
-        let S = standard-is (s .words) (r .count) (Q .1 .0) in
-        let U = users r (s .words) in
-        let u3 = and-both _ _ (Q .1 .1 .0) .0 in
-        let us = and-both (leb (r .entries) (listCapacity r (s .list)) && every (λ i. isUser (s .words) (r .count) (getD (s .list) i 0)) 0 (r .entries * size r)) _ u3 .1 in
-        let l4 = and-both _ _ (Q .1 .1 .1 .0) in
-        let l5 = and3 (isUser (s .words) (r .count) b) (U a) (U d) (Q .1 .1 .1 .1 .0) in
-        let l6 = and-both _ _ (Q .1 .1 .1 .1 .1 .0) in
-        let na : length a ≡ 2 * r .n = eqb-true _ _ (l4 .0) in
-        let wd : length d ≡ 2 * r .w = eqb-true _ _ (l4 .1) in
-        record {
-          few = row1-n r (s .words) (Q .0);
-          standard = S;
-          address = na;
-          word = wd;
-          condition = user-means {s = begin r} S us;
-          control = user-means {s = begin r} S (l5 .0);
-          addresses = users-halves σ r (s .words) S a (r .n) na (l5 .1);
-          datas = users-halves σ r (s .words) S d (r .w) wd (l5 .2);
-          legal-address = pairs-legal k small r (s .words) S a (r .n) na (l5 .1) (l6 .0);
-          legal-data = pairs-legal k small r (s .words) S d (r .w) wd (l5 .2) (l6 .1);
-          one-address = pairs-unique k small r (s .words) S a (r .n) na (l5 .1) b (user-is (s .words) (r .count) b (l5 .0) .0) (Q .1 .1 .1 .1 .1 .1 .0);
-        }
+    abbrev standard : Standard (s .words) (r .count)
+    standard = facts .compared .memory .standard
+
+    condition : Means σ 8 (λ τ. κ) (s .words) (begin r) (r .asserted)
+    condition = name-means σ r (s .words) standard (facts .compared .memory .listed .asserted)
+
+    control-means : Means σ 8 (λ τ. β) (s .words) (begin r) b
+    control-means = name-means σ r (s .words) standard (facts .compared .control)
+
+    addresses : Halves σ 8 (2 * r .n) (λ τ. at qs) (s .words) (begin r) a
+    addresses = names-halves σ r (s .words) standard a (r .n) (facts .compared .address .names)
+
+    datas : Halves σ 8 (2 * r .w) (λ τ. at ds) (s .words) (begin r) d
+    datas = names-halves σ r (s .words) standard d (r .w) (facts .compared .word .names)
 
     lq : length qs ≡ r .n
     lq = length-pairs σ (s .words) a 0 (r .n)
@@ -323,31 +307,35 @@ module _ (k : ℕ) (small : k < 2 ^ 64) (s : State) (h : Held) (H : Holds (bitAt
     ld = length-pairs σ (s .words) d 0 (r .w)
 
     abbrev x : Outcome Asserted
-    x = Assert r (s .list) b a d (s .words) (begin r)
+    x = assertFirst b a d s
+
+    legal-arguments : Accepted (r .n) (r .w) (asserts β qs ds)
+    legal-arguments = ((pairs-legal k small r (s .words) a (r .n) (facts .compared .address .legal), lq), (pairs-legal k small r (s .words) d (r .w) (facts .compared .word .legal), ld), pairs-unique k small r (s .words) a b (facts .known))
 
     pub assert-builds : Builds (s .words) (begin r) (AssertedMean σ (κ && assertHolds (r .n) (r .w) (h .entries) β qs ds) (not β) (keeps (r .n) (r .w) (h .entries) β qs ds)) x
-    assert-builds = assert-means r (s .list) (asked .few) (h .entries) b β κ a d qs ds lq (s .words) (begin r) (asked .standard) (H .entries) (asked .control) (asked .addresses) (asked .datas) (asked .condition)
+    assert-builds = assert-means r (s .list) (facts .compared .memory .range .n-most) (h .entries) b β κ a d qs ds lq (s .words) (begin r) standard (H .entries) control-means addresses datas condition
 
     module _ (free : x .store .full ≡ false) where
       abbrev one : Store
       one = record { count = x .store .count; full = false }
 
       entries1 : EntriesMean σ r (h .entries) (x .words) one (s .list)
-      entries1 = grown-entries σ s h H (assert b a d) (asked .standard) assert-builds free
+      entries1 = grown-entries σ s h H (access (assert b a d)) standard assert-builds free
 
       checked1 : Means σ 8 (λ τ. h .condition) (x .words) one (r .checked)
-      checked1 = grown-checked σ s h H (assert b a d) (asked .standard) assert-builds free
+      checked1 = grown-checked σ s h H (access (assert b a d)) standard assert-builds free
 
       -- an assert that is kept
-      kept-follows : x .answer .keep ≡ 1 → Follows σ s h (assert b a d) (record { answer = kept; after = withAsserted s (x .words) (x .store .count) (x .answer .condition) })
+      kept-follows : x .answer .keep ≡ 1 → Follows σ s h (access (assert b a d)) (record { answer = done kept; after = withAssertCondition (grown s (x .words) (x .store .count)) (x .answer .condition) })
       kept-follows q =
           let t : keeps (r .n) (r .w) (h .entries) β qs ds ≡ true = sym (assert-builds .post .keep .is free σ (near-self σ)) ∙ (rw q (value-1 (x .words) σ)) in
           record {
             same-n = refl;
             same-w = refl;
-            accepted = ((asked .legal-address, lq), (asked .legal-data, ld), asked .one-address, eq→T t);
+            accepted = legal-arguments;
+            keeping = λ z. eq→T t;
             holds = record { entries = entries-at r (x .store .count) (x .answer .condition) (r .checked) entries1; checked = checked1 };
-            bits = λ ks es i l b. (λ z. z, λ z. z);
+            bits = λ i l b. (λ z. z, λ z. z);
           }
 
       -- its Write
@@ -357,24 +345,25 @@ module _ (k : ℕ) (small : k < 2 ^ 64) (s : State) (h : Held) (H : Holds (bitAt
       pub enter-builds : Builds (x .words) one (MarksMean σ (entry (control β) qs ds)) y
       enter-builds =
           write-means (r .n) b (x .answer .unless) a (control β) qs ds lq (x .words) one (assert-builds .standard)
-          (free-store (λ (t : Store). Means σ 8 (λ τ. β) (x .words) t b) (x .store) free (up (asked .standard) assert-builds (asked .control)))
+          (free-store (λ (t : Store). Means σ 8 (λ τ. β) (x .words) t b) (x .store) free (up standard assert-builds control-means))
           (free-store (λ (t : Store). Means σ 8 (λ τ. not β) (x .words) t (x .answer .unless)) (x .store) free (assert-builds .post .unless))
-          (free-store (λ (t : Store). Halves σ 8 (2 * r .n) (λ τ. at qs) (x .words) t a) (x .store) free (up-halves (asked .standard) assert-builds (asked .addresses)))
+          (free-store (λ (t : Store). Halves σ 8 (2 * r .n) (λ τ. at qs) (x .words) t a) (x .store) free (up-halves standard assert-builds addresses))
 
       -- an assert that is entered
       entered-follows : r .entries < listCapacity r (s .list) → y .store .full ≡ false
-          → Follows σ s h (assert b a d) (record { answer = entered; after = withEntry (withAsserted s (y .words) (y .store .count) (x .answer .condition)) (y .answer) a d })
+          → Follows σ s h (access (assert b a d)) (record { answer = done entered; after = withEntry (withAssertCondition (grown s (y .words) (y .store .count)) (x .answer .condition)) (y .answer) a d })
       unfolding listCapacity
       entered-follows room free2 =
-          let A1 = free-store (λ (t : Store). Halves σ 8 (2 * r .n) (λ τ. at qs) (x .words) t a) (x .store) free (up-halves (asked .standard) assert-builds (asked .addresses)) in
-          let D1 = free-store (λ (t : Store). Halves σ 8 (2 * r .w) (λ τ. at ds) (x .words) t d) (x .store) free (up-halves (asked .standard) assert-builds (asked .datas)) in
+          let A1 = free-store (λ (t : Store). Halves σ 8 (2 * r .n) (λ τ. at qs) (x .words) t a) (x .store) free (up-halves standard assert-builds addresses) in
+          let D1 = free-store (λ (t : Store). Halves σ 8 (2 * r .w) (λ τ. at ds) (x .words) t d) (x .store) free (up-halves standard assert-builds datas) in
           let E2 = free-store (λ (t : Store). EntriesMean σ r (h .entries) (y .words) t (s .list)) (y .store) free2 (up-entries (assert-builds .standard) enter-builds entries1) in
           record {
             same-n = refl;
             same-w = refl;
-            accepted = ((asked .legal-address, lq), (asked .legal-data, ld), asked .one-address, tt);
+            accepted = legal-arguments;
+            keeping = λ z. absurd (false≢true z);
             holds = record {
-              entries = entries-more (withAsserted s (y .words) (y .store .count) (x .answer .condition) .rec) (s .list) (y .answer) a d (entry (control β) qs ds) (asked .address) (asked .word) room
+              entries = entries-more (withAssertCondition (grown s (y .words) (y .store .count)) (x .answer .condition) .rec) (s .list) (y .answer) a d (entry (control β) qs ds) (facts .compared .address .long) (facts .compared .word .long) room
                   (entries-at r (y .store .count) (x .answer .condition) (r .checked) E2)
                   (free-store (λ (t : Store). MarksMean σ (entry (control β) qs ds) (y .words) t (y .answer)) (y .store) free2 (enter-builds .post))
                   (free-store (λ (t : Store). Halves σ 8 (2 * r .n) (λ τ. at qs) (y .words) t a) (y .store) free2 (up-halves (assert-builds .standard) enter-builds A1))
@@ -382,55 +371,47 @@ module _ (k : ℕ) (small : k < 2 ^ 64) (s : State) (h : Held) (H : Holds (bitAt
                   lq;
               checked = free-store (λ (t : Store). Means σ 8 (λ τ. h .condition) (y .words) t (r .checked)) (y .store) free2 (up (assert-builds .standard) enter-builds checked1);
             };
-            bits = λ ks es i l b. (λ z. z, λ z. z);
+            bits = λ i l b. (λ z. z, λ z. z);
           }
 
-      enter-follows : Follows σ s h (assert b a d) (enter s b a d (x .answer) (x .words) (x .store .count))
-      unfolding enter
+      enter-follows : Follows σ s h (access (assert b a d)) (closed s (enter s b a d (x .answer) (x .words) (x .store .count)))
+      unfolding enter closed
       enter-follows =
           split (eqb (x .answer .keep) 1) (λ t. rw t (kept-follows (eqb-true _ _ t)))
           (λ t. split (row8 r (s .words) (s .list))
-          (λ u. rw (t, u) (nine-follows σ s h H (assert b a d) (asked .standard) y _ (entered-follows (ltb-true _ _ u))))
-          (λ u. rw (t, u) (cleared-follows σ s h H (assert b a d) (asked .standard) 8)))
+          (λ u. rw (t, u) (nine-follows σ s h H (access (assert b a d)) standard y _ (entered-follows (ltb-true _ _ u))))
+          (λ u. rw (t, u) (cleared-follows σ s h H (access (assert b a d)) standard 8)))
 
-    assert-follows : Follows σ s h (assert b a d) (act (assert b a d) s)
-    unfolding act
-    assert-follows = nine-follows σ s h H (assert b a d) (asked .standard) x _ enter-follows
+    assert-follows : Follows σ s h (access (assert b a d)) (closed s (finish (access (assert b a d)) s))
+    unfolding finishAccess
+    assert-follows = nine-follows σ s h H (access (assert b a d)) standard x _ enter-follows
 
-  variable-follows : (v : ℕ) → refusal (variable v) s ≡ 0 → Follows σ s h (variable v) (act (variable v) s)
-  unfolding act
-  variable-follows v e =
-      let Q = rows-hold (variableRows (s .rec) (s .words) v) refl e in
-      let S = standard-is (s .words) (s .rec .count) (Q .1 .0) in
-      let X = variable-means {σ = σ} {s = begin (s .rec)} {v = v} S (omega (arith, leb-true v 63 (and-both (leb 8 v) (leb v 63) (Q .1 .1 .0) .1))) in
-      nine-follows σ s h H (variable v) S (Variable v (s .words) (begin (s .rec))) _
-      (λ f. record { same-n = refl; same-w = refl; accepted = tt; holds = grown-holds σ s h H (variable v) S X f; bits = λ ks es i l b. (λ z. z, λ z. z) })
+  node-follows : (c : NodeCall) → refusal (nodeCall c) s ≡ 0 → Follows σ s h (nodeCall c) (closed s (finish (nodeCall c) s))
+  unfolding finishNode closed
+  node-follows (evaluate f φ) e = record { same-n = refl; same-w = refl; accepted = tt; keeping = λ z. absurd (false≢true z); holds = H; bits = λ i l b. (λ z. z, λ z. z) }
+  node-follows (variable v) e =
+      let F = variable-facts s v e in
+      let X = variable-means {σ = σ} {s = begin (s .rec)} {v = v} (F .standard) (omega (arith, F .named .1)) in
+      nine-follows σ s h H (nodeCall (variable v)) (F .standard) (Variable v (s .words) (begin (s .rec))) _
+      (λ f. record { same-n = refl; same-w = refl; accepted = tt; keeping = λ z. absurd (false≢true z); holds = grown-holds σ s h H (nodeCall (variable v)) (F .standard) X f; bits = λ i l b. (λ z. z, λ z. z) })
+  node-follows (ite f g j) e =
+      let F = ite-facts s f g j e in
+      let S = F .standard in
+      let X = ite-means S (name-means σ (s .rec) (s .words) S (F .named .0)) (name-means σ (s .rec) (s .words) S (F .named .1)) (name-means σ (s .rec) (s .words) S (F .named .2)) in
+      nine-follows σ s h H (nodeCall (ite f g j)) S (Ite f g j (s .words) (begin (s .rec))) _
+      (λ q. record { same-n = refl; same-w = refl; accepted = tt; keeping = λ z. absurd (false≢true z); holds = grown-holds σ s h H (nodeCall (ite f g j)) S X q; bits = λ i l b. (λ z. z, λ z. z) })
 
-  ite-follows : (f g j : ℕ) → refusal (ite f g j) s ≡ 0 → Follows σ s h (ite f g j) (act (ite f g j) s)
-  unfolding act
-  ite-follows f g j e =
-      let Q = rows-hold (iteRows (s .rec) (s .words) f g j) refl e in
-      let S = standard-is (s .words) (s .rec .count) (Q .1 .0) in
-      let U = isUser (s .words) (s .rec .count) in
-      let u = and3 (U f) (U g) (U j) (Q .1 .1 .0) in
-      let X = ite-means S (user-means {σ = σ} {s = begin (s .rec)} S (u .0)) (user-means {s = begin (s .rec)} S (u .1)) (user-means {s = begin (s .rec)} S (u .2)) in
-      nine-follows σ s h H (ite f g j) S (Ite f g j (s .words) (begin (s .rec))) _
-      (λ q. record { same-n = refl; same-w = refl; accepted = tt; holds = grown-holds σ s h H (ite f g j) S X q; bits = λ ks es i l b. (λ z. z, λ z. z) })
-
-  act-follows : (c : Call) → refusal c s ≡ 0 → Follows σ s h c (act c s)
-  unfolding act
-  act-follows (write c a d) e = write-follows c a d e
-  act-follows (read en a out) e = read-follows en a out e
-  act-follows (assert b a d) e = assert-follows b a d e
-  act-follows (check b a d) e = check-follows b a d e
-  act-follows (evaluate f φ) e = record { same-n = refl; same-w = refl; accepted = tt; holds = H; bits = λ ks es i l b. (λ z. z, λ z. z) }
-  act-follows (variable v) e = variable-follows v e
-  act-follows (ite f g j) e = ite-follows f g j e
+  finish-follows : (c : Call) → refusal c s ≡ 0 → Follows σ s h c (closed s (finish c s))
+  finish-follows (access (write c a d)) e = write-follows c a d e
+  finish-follows (access (read en a out)) e = read-follows en a out e
+  finish-follows (access (assert b a d)) e = assert-follows b a d e
+  finish-follows (access (check b a d)) e = check-follows b a d e
+  finish-follows (nodeCall c) e = node-follows c e
 
   pub step-follows : (c : Call) → Follows σ s h c (step c s)
   unfolding step
   step-follows c = go (refusal c s) refl
     where
-      go : (n : ℕ) → refusal c s ≡ n → Follows σ s h c (unless n s (act c s))
-      go zero e = act-follows c e
+      go : (n : ℕ) → refusal c s ≡ n → Follows σ s h c (unlessRefused n s (closed s (finish c s)))
+      go zero e = finish-follows c e
       go (suc n) e = turned-follows σ s h H c (suc n)

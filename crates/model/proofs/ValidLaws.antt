@@ -16,7 +16,7 @@ use Rattle.conditions.proofs.Promises.{agree-var, is-standard, user-is, is-user
 use Rattle.model.specs.Record.{size, listCapacity, appended}
 use Rattle.model.specs.Access.{Marks}
 use Rattle.model.specs.Rows.{users, row1}
-use Rattle.model.specs.Step.{State, withEntry}
+use Rattle.model.specs.Step.{State, grown, withEntry, withAssertCondition, withCheckCondition}
 use Rattle.model.specs.Frames.{Extended, Valid}
 use Rattle.model.proofs.ListLaws.{entry-word, appended-length, appended-old, appended-past, entry-new}
 use Rattle.model.proofs.ThirdLaws.{User, Third, third-is, is-third}
@@ -35,7 +35,7 @@ users-at s ws u i h = every-is (λ i. isUser (s .words) (s .rec .count) (getD ws
 
 -- the state with other node words and conditions
 abbrev pub withConditions : State → List ℕ → ℕ → ℕ → ℕ → State
-withConditions s w c v u = record { rec = record { n = s .rec .n; w = s .rec .w; count = c; entries = s .rec .entries; asserted = v; checked = u }; words = w; list = s .list }
+withConditions s w c v u = withCheckCondition (withAssertCondition (grown s w c) v) u
 
 module _ (s : State) (w : List ℕ) (c v u : ℕ) where
   -- where every node that 5 accepted is still accepted

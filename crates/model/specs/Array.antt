@@ -16,8 +16,8 @@ pub data Event : Type 0 where
   nothing : Event
 
 -- "It holds 2^n words of w bits": a word at each location; a location and a word are lists of bits
-abbrev pub Array : Type 0
-Array = List Bool → List Bool
+pub record Memory : Type 0 where
+  pub cells : List Bool → List Bool
 
 abbrev pub same : List Bool → List Bool → Bool
 same [] [] = true
@@ -25,8 +25,9 @@ same [] (b ∷ bs) = false
 same (a ∷ as′) [] = false
 same (a ∷ as′) (b ∷ bs) = Bool·beq a b && same as′ bs
 
-abbrev pub store : Array → List Bool → List Bool → Array
-store m x v = λ y. cond (same y x) v (m y)
+-- the memory with a word at a location
+abbrev pub put : Memory → List Bool → List Bool → Memory
+put m x v = record { cells = λ y. cond (same y x) v (m .cells y) }
 
 -- a bit, and an address or a word, that the pairs admit
 abbrev pub Bit : Pair → Type 0
@@ -49,30 +50,30 @@ Choice w (asserts b a d) = Where b (Bits a × Bits d)
 Choice w (checks b a d) = Where b (Bits a)
 Choice w nothing = Unit {0}
 
--- the array after a call: "enabled, store the data at the address"; an assert stores "whether the assert is entered or kept"
-abbrev pub next : (w : ℕ) (e : Event) → Choice w e → Array → Array
-next w (writes c a d) k m = cond (k .0 .0) (store m (k .1 .0) (k .2 .0)) m
-next w (reads e a) k m = m
-next w (asserts true a d) k m = store m (k .0 .0) (k .1 .0)
-next w (asserts false a d) k m = m
-next w (checks b a d) k m = m
-next w nothing k m = m
+-- the memory after a call: "enabled, store the data at the address"; an assert stores "whether the assert is entered or kept"
+abbrev pub memoryAfter : (w : ℕ) (e : Event) → Choice w e → Memory → Memory
+memoryAfter w (writes c a d) k m = cond (k .0 .0) (put m (k .1 .0) (k .2 .0)) m
+memoryAfter w (reads e a) k m = m
+memoryAfter w (asserts true a d) k m = put m (k .0 .0) (k .1 .0)
+memoryAfter w (asserts false a d) k m = m
+memoryAfter w (checks b a d) k m = m
+memoryAfter w nothing k m = m
 
 -- what a call returns, or finds; a word found stands beside the check's data
-pub data Outcome : Type 0 where
-  returned : List Bool → Outcome
-  found : List Bool → List Pair → Outcome
-  silent : Outcome
+pub data Observed : Type 0 where
+  returned : List Bool → Observed
+  found : List Bool → List Pair → Observed
+  silent : Observed
 
 -- "Read: .. enabled, return the word there, else any word." "Check: .. choose an admitted address and find its word".
 -- "Where b does not hold, an assert or check does nothing."
-abbrev pub outcome : (w : ℕ) (e : Event) → Choice w e → Array → Outcome
-outcome w (writes c a d) k m = silent
-outcome w (reads e a) k m = returned (cond (k .0 .0) (m (k .1 .0)) (k .2 .0))
-outcome w (asserts b a d) k m = silent
-outcome w (checks true a d) k m = found (m (k .0)) d
-outcome w (checks false a d) k m = silent
-outcome w nothing k m = silent
+abbrev pub observes : (w : ℕ) (e : Event) → Choice w e → Memory → Observed
+observes w (writes c a d) k m = silent
+observes w (reads e a) k m = returned (cond (k .0 .0) (m .cells (k .1 .0)) (k .2 .0))
+observes w (asserts b a d) k m = silent
+observes w (checks true a d) k m = found (m .cells (k .0)) d
+observes w (checks false a d) k m = silent
+observes w nothing k m = silent
 
 -- "A plain run is one starting content with one choice wherever there is one."
 abbrev pub Choices : ℕ → List Event → Type 0
@@ -80,28 +81,28 @@ Choices w [] = Unit {0}
 Choices w (e ∷ es) = Choice w e × Choices w es
 
 abbrev pub Start : ℕ → Type 0
-Start w = (m : Array) × ((x : List Bool) → T (admits (anything w) (m x)))
+Start w = (m : Memory) × ((x : List Bool) → T (admits (anything w) (m .cells x)))
 
 abbrev pub Run : ℕ → List Event → Type 0
 Run w es = Start w × Choices w es
 
--- the outcome of call j, from an array on
-abbrev pub outcomesFrom : (w : ℕ) (es : List Event) → Array → Choices w es → ℕ → Outcome
-outcomesFrom w [] m ks j = silent
-outcomesFrom w (e ∷ es) m ks zero = outcome w e (ks .0) m
-outcomesFrom w (e ∷ es) m ks (suc j) = outcomesFrom w es (next w e (ks .0) m) (ks .1) j
+-- what call j observes, from a memory on
+abbrev pub observesFrom : (w : ℕ) (es : List Event) → Memory → Choices w es → ℕ → Observed
+observesFrom w [] m ks j = silent
+observesFrom w (e ∷ es) m ks zero = observes w e (ks .0) m
+observesFrom w (e ∷ es) m ks (suc j) = observesFrom w es (memoryAfter w e (ks .0) m) (ks .1) j
 
-abbrev pub outcomes : (w : ℕ) (es : List Event) → Run w es → ℕ → Outcome
-outcomes w es r j = outcomesFrom w es (r .0 .0) (r .1) j
+abbrev pub observed : (w : ℕ) (es : List Event) → Run w es → ℕ → Observed
+observed w es r j = observesFrom w es (r .0 .0) (r .1) j
 
 -- a word is returned, with b at bit i
-abbrev pub Returns : Outcome → ℕ → Bool → Type 0
+abbrev pub Returns : Observed → ℕ → Bool → Type 0
 Returns (returned v) i b = bit v i ≡ b
 Returns (found v d) i b = ⊥
 Returns silent i b = ⊥
 
 -- "the check allows it if d admits every bit"
-abbrev pub Allowed : Outcome → Type 0
+abbrev pub Allowed : Observed → Type 0
 Allowed (returned v) = Unit {0}
 Allowed (found v d) = T (admits d v)
 Allowed silent = Unit {0}

@@ -11,8 +11,8 @@ use Rattle.conditions.specs.Value.{value}
 use Rattle.conditions.specs.Assignment.{bitAt}
 use Rattle.model.specs.Pairs.{Pair, admit}
 use Rattle.model.specs.Record.{Record, hAt, lAt}
-use Rattle.model.specs.Step.{State, Call, write, read, assert, check, evaluate, variable, ite, Answer, refused, place, filled, entered, kept, accepted, valued, node, Result, step, run, fresh}
-use Rattle.model.specs.Array.{Event, writes, reads, asserts, checks, nothing, Run, outcomes, Returns, Allowed}
+use Rattle.model.specs.Step.{State, Access, write, read, assert, check, Call, access, nodeCall, Answer, refused, done, Filling, fills, fillsNone, filling, Result, step, run, fresh}
+use Rattle.model.specs.Array.{Event, writes, reads, asserts, checks, nothing, Run, observed, Returns, Allowed}
 
 -- "A node in an accepted call's arguments stands for its value under the assignment, in the node words lent to that call."
 abbrev pub pairAt : (ℕ → Bool) → List ℕ → List ℕ → ℕ → Pair
@@ -26,41 +26,30 @@ pairsFrom φ w ws i (suc k) = pairAt φ w ws i ∷ pairsFrom φ w ws (suc i) k
 abbrev pub pairs : (ℕ → Bool) → List ℕ → List ℕ → ℕ → List Pair
 pairs φ w ws k = pairsFrom φ w ws 0 k
 
--- an accepted call as the array is fed it; the node calls "store, return and find nothing"
-abbrev pub argument : (ℕ → Bool) → State → Call → Event
+-- an accepted access as the array is fed it
+abbrev pub argument : (ℕ → Bool) → State → Access → Event
 argument φ s (write c a d) = writes (pairAt φ (s .words) c 0) (pairs φ (s .words) a (s .rec .n)) (pairs φ (s .words) d (s .rec .w))
 argument φ s (read e a out) = reads (pairAt φ (s .words) e 0) (pairs φ (s .words) a (s .rec .n))
 argument φ s (assert b a d) = asserts (value (s .words) φ b) (pairs φ (s .words) a (s .rec .n)) (pairs φ (s .words) d (s .rec .w))
 argument φ s (check b a d) = checks (value (s .words) φ b) (pairs φ (s .words) a (s .rec .n)) (pairs φ (s .words) d (s .rec .w))
-argument φ s (evaluate f a) = nothing
-argument φ s (variable v) = nothing
-argument φ s (ite f g h) = nothing
 
--- "A refused call .. store[s], return[s] and find[s] nothing, and a refused check is not in force."
+-- "A refused call and a node call store, return and find nothing, and a refused check is not in force."
 abbrev pub event : (ℕ → Bool) → State → Call → Answer → Event
 event φ s c (refused k) = nothing
-event φ s c (place k) = argument φ s c
-event φ s c (filled r) = argument φ s c
-event φ s c entered = argument φ s c
-event φ s c kept = argument φ s c
-event φ s c accepted = argument φ s c
-event φ s c (valued b) = argument φ s c
-event φ s c (node n) = argument φ s c
+event φ s (access c) (done g) = argument φ s c
+event φ s (nodeCall c) (done g) = nothing
 
 abbrev pub events : (ℕ → Bool) → State → List Call → List Event
 events φ s [] = []
 events φ s (c ∷ cs) = event φ s c (step c s .answer) ∷ events φ (step c s .after) cs
 
 -- "A read's answer is judged in its answer words and the node words as that read left them": bit i of it may be b
+abbrev pub FillingMay : (ℕ → Bool) → List ℕ → Filling → ℕ → Bool → Type 0
+FillingMay φ w (fills r) i b = T (admit (pairAt φ w r i) b)
+FillingMay φ w fillsNone i b = ⊥
+
 abbrev pub BitMay : (ℕ → Bool) → List ℕ → Answer → ℕ → Bool → Type 0
-BitMay φ w (refused k) i b = ⊥
-BitMay φ w (place k) i b = ⊥
-BitMay φ w (filled r) i b = T (admit (pairAt φ w r i) b)
-BitMay φ w entered i b = ⊥
-BitMay φ w kept i b = ⊥
-BitMay φ w accepted i b = ⊥
-BitMay φ w (valued v) i b = ⊥
-BitMay φ w (node n) i b = ⊥
+BitMay φ w x i b = FillingMay φ w (filling x) i b
 
 -- call j of the list is an accepted read, bit i of whose answer may be b
 abbrev pub May : (ℕ → Bool) → State → List Call → ℕ → ℕ → Bool → Type 0
@@ -76,8 +65,8 @@ CheckHolds φ s cs = T (value (run cs s .words) φ (run cs s .rec .checked))
 -- finds, at every check in force, a word that the check allows
 pub record Exactly (s : State) (cs : List Call) (φ : ℕ → Bool) : Type 0 where
   pub bits : (j i : ℕ) → i < s .rec .w → (b : Bool)
-      → May φ s cs j i b ↔ ((r : Run (s .rec .w) (events φ s cs)) × Returns (outcomes (s .rec .w) (events φ s cs) r j) i b)
-  pub checking : CheckHolds φ s cs ↔ ((r : Run (s .rec .w) (events φ s cs)) (j : ℕ) → Allowed (outcomes (s .rec .w) (events φ s cs) r j))
+      → May φ s cs j i b ↔ ((r : Run (s .rec .w) (events φ s cs)) × Returns (observed (s .rec .w) (events φ s cs) r j) i b)
+  pub checking : CheckHolds φ s cs ↔ ((r : Run (s .rec .w) (events φ s cs)) (j : ℕ) → Allowed (observed (s .rec .w) (events φ s cs) r j))
 
 -- a state in which lists of calls may begin: any standard store, no entries, both conditions 1, and a list of any words
 pub record Begins (s : State) : Type 0 where

@@ -1,31 +1,25 @@
 -- 01, 'Turned down': what a refusal and a success leave, and that a valid state stays valid. And the count of entries.
 use mathlib.Core.Path.{_≡_}
-use mathlib.Core.Bool.{Bool, true, false, cond, not, _&&_, _||_}
+use mathlib.Core.Bool.{Bool, true, false, _&&_, _||_}
 use mathlib.Core.List.{List, [], _∷_}
 use Prim.Native.Nat.{ℕ, zero, suc, _+_, _*_, _<_, _≤_}
 use lib.Dec.{eqb}
 use lib.ListN.{length, getD}
 use Rattle.nodes.specs.Words.{capacityOf}
 use Rattle.nodes.specs.Extends.{Extends}
-use Rattle.conditions.specs.declared.Store.{Store}
-use Rattle.conditions.specs.Build.{Outcome}
-use Rattle.conditions.specs.Make.{Variable}
-use Rattle.conditions.specs.Ite.{Ite}
-use Rattle.model.specs.Access.{Write, Read, Asserted, Assert, Check}
 use Rattle.nodes.specs.Clear.{clearOf}
+use Rattle.conditions.specs.declared.Store.{Store}
 use Rattle.model.specs.Record.{Record, size}
-use Rattle.model.specs.Rows.{row1, row2, row3, row8}
-use Rattle.model.specs.Step.{State, Call, write, read, assert, check, evaluate, variable, ite, Answer, refused, place, filled, entered, kept, accepted, valued, node, Result, isRefused, refusal, begin, step, run, fresh}
+use Rattle.model.specs.Rows.{row1, row2, row3}
+use Rattle.model.specs.Step.{State, withWords, Access, write, read, assert, check, Call, access, nodeCall, Given, place, filled, entered, kept, accepted, valued, node, Answer, refused, done, isRefused, refusal, Finish, full, short, gives, finish, step, run, fresh}
 
 -- "After 9, or 8 in an assert, all node words from the count to capacity are 0; otherwise untouched."
 abbrev pub isAssert : Call → Bool
-isAssert (write c a d) = false
-isAssert (read e a out) = false
-isAssert (assert b a d) = true
-isAssert (check b a d) = false
-isAssert (evaluate f a) = false
-isAssert (variable v) = false
-isAssert (ite f g h) = false
+isAssert (access (write c a d)) = false
+isAssert (access (read e a out)) = false
+isAssert (access (assert b a d)) = true
+isAssert (access (check b a d)) = false
+isAssert (nodeCall c) = false
 
 abbrev pub clears : Call → ℕ → Bool
 clears c k = eqb k 9 || isAssert c && eqb k 8
@@ -36,69 +30,37 @@ wordsAfter false s = s .words
 
 -- "A refusal .. returns its number; record, nodes below the count, list .. are untouched." (That a refused read leaves the answer words is `answerWords`.)
 unfoldable pub RefusalLeaves : Type 0
-RefusalLeaves = (c : Call) (s : State) (k : ℕ) → step c s .answer ≡ refused k → step c s .after ≡ record { rec = s .rec; words = wordsAfter (clears c k) s; list = s .list }
+RefusalLeaves = (c : Call) (s : State) (k : ℕ) → step c s .answer ≡ refused k → step c s .after ≡ withWords s (wordsAfter (clears c k) s)
 
 -- a refusal's number is one of the table's
 unfoldable pub RefusalNumber : Type 0
 RefusalNumber = (c : Call) (s : State) (k : ℕ) → step c s .answer ≡ refused k → (1 ≤ k) × (k ≤ 9)
 
--- "if Or(Not b, And(A,C)) is 1 the assert is kept, else entered": whether an assert, after what it builds first, needs its entry
-abbrev pub needsEntry : Outcome Asserted → Bool
-needsEntry x = not (x .store .full) && not (eqb (x .answer .keep) 1)
+-- what a call that no row refuses is refused by after building: 9 where its program needs a node past capacity, 8 where it has no space for its entry; 0 is none
+abbrev pub lateRow : Finish → ℕ
+lateRow (full t) = 9
+lateRow short = 8
+lateRow (gives g t) = 0
 
-abbrev pub asserting : ℕ → List ℕ → List ℕ → State → Outcome Asserted
-asserting b a d s = Assert (s .rec) (s .list) b a d (s .words) (begin (s .rec))
-
--- the store as the program of a call leaves it, an assert's Write with it where the entry is needed and has space
-abbrev pub built : Call → State → Store
-built (write c a d) s = Write (s .rec .n) (getD c 0 0) (getD c 1 0) a (s .words) (begin (s .rec)) .store
-built (read e a out) s = Read (s .rec) (s .list) (getD e 0 0) (getD e 1 0) a (s .words) (begin (s .rec)) .store
-built (assert b a d) s =
-    let x = asserting b a d s in
-    cond (needsEntry x && row8 (s .rec) (s .words) (s .list)) (Write (s .rec .n) b (x .answer .unless) a (x .words) (record { count = x .store .count; full = false }) .store) (x .store)
-built (check b a d) s = Check (s .rec) (s .list) b a d (s .words) (begin (s .rec)) .store
-built (evaluate f a) s = begin (s .rec)
-built (variable v) s = Variable v (s .words) (begin (s .rec)) .store
-built (ite f g h) s = Ite f g h (s .words) (begin (s .rec)) .store
-
--- "Make needs a node past capacity"
-abbrev pub overflows : Call → State → Bool
-overflows c s = built c s .full
-
--- "in an assert 8 is met when the entry is needed"
-abbrev pub lacksSpace : Call → State → Bool
-lacksSpace (write c a d) s = false
-lacksSpace (read e a out) s = false
-lacksSpace (assert b a d) s = needsEntry (asserting b a d s) && not (row8 (s .rec) (s .words) (s .list))
-lacksSpace (check b a d) s = false
-lacksSpace (evaluate f a) s = false
-lacksSpace (variable v) s = false
-lacksSpace (ite f g h) s = false
-
--- a call is refused by the first row that it meets; where it meets none, by 9 where its program overflows, and in an assert by 8 where there is no space: by nothing else
-abbrev pub late : Call → State → ℕ → Bool
-late c s k = lacksSpace c s && eqb k 8 || overflows c s && eqb k 9
-
+-- a call is refused by the first row that it meets; where it meets none, by what it is refused by after building: by nothing else
 unfoldable pub RefusedByRow : Type 0
-RefusedByRow = (c : Call) (s : State) (k : ℕ) → step c s .answer ≡ refused k → (eqb (refusal c s) k || eqb (refusal c s) 0 && late c s k) ≡ true
+RefusedByRow = (c : Call) (s : State) (k : ℕ) → step c s .answer ≡ refused k → (eqb (refusal c s) k || eqb (refusal c s) 0 && eqb (lateRow (finish c s)) k) ≡ true
 
 -- and there it is refused
 unfoldable pub RowRefuses : Type 0
-RowRefuses = (c : Call) (s : State) → ((k : ℕ) → refusal c s ≡ suc k → step c s .answer ≡ refused (suc k)) × ((k : ℕ) → refusal c s ≡ 0 → late c s k ≡ true → step c s .answer ≡ refused k)
+RowRefuses = (c : Call) (s : State) (k : ℕ) → (refusal c s ≡ suc k → step c s .answer ≡ refused (suc k)) × (refusal c s ≡ 0 → lateRow (finish c s) ≡ suc k → step c s .answer ≡ refused (suc k))
 
 -- 9 is met at capacity: of a call that it refuses, the program ends with as many nodes as the lent words hold
 unfoldable pub NineAtCapacity : Type 0
-NineAtCapacity = (c : Call) (s : State) → step c s .answer ≡ refused 9 → built c s .count ≡ capacityOf (s .words)
+NineAtCapacity = (c : Call) (s : State) → step c s .answer ≡ refused 9 → (t : Store) × (finish c s ≡ full t) × (t .count ≡ capacityOf (s .words))
 
 -- the assert condition is an assert's alone to change, the check condition a check's
 abbrev pub isCheck : Call → Bool
-isCheck (write c a d) = false
-isCheck (read e a out) = false
-isCheck (assert b a d) = false
-isCheck (check b a d) = true
-isCheck (evaluate f a) = false
-isCheck (variable v) = false
-isCheck (ite f g h) = false
+isCheck (access (write c a d)) = false
+isCheck (access (read e a out)) = false
+isCheck (access (assert b a d)) = false
+isCheck (access (check b a d)) = true
+isCheck (nodeCall c) = false
 
 unfoldable pub ConditionsStay : Type 0
 ConditionsStay = (c : Call) (s : State) → (isAssert c ≡ false → step c s .after .rec .asserted ≡ s .rec .asserted) × (isCheck c ≡ false → step c s .after .rec .checked ≡ s .rec .checked)
@@ -138,9 +100,8 @@ unfoldable pub FreshNoRow123 : Type 0
 FreshNoRow123 = (given : Record) (n w : ℕ) (ws list : List ℕ) → fresh given n w ws .answer ≡ 0 → (cs : List Call) (c : Call) (k : ℕ)
     → step c (run cs (record { rec = fresh given n w ws .rec; words = fresh given n w ws .words; list = list })) .answer ≡ refused k → 4 ≤ k
 
--- one for an accepted write and for an accepted assert, by its answer
-abbrev pub writeOrAssert : Answer → ℕ
-writeOrAssert (refused k) = 0
+-- one for an accepted write and for an accepted assert, by what it gives
+abbrev pub writeOrAssert : Given → ℕ
 writeOrAssert (place k) = 1
 writeOrAssert (filled r) = 0
 writeOrAssert entered = 1
@@ -149,9 +110,13 @@ writeOrAssert accepted = 0
 writeOrAssert (valued b) = 0
 writeOrAssert (node n) = 0
 
+abbrev pub acceptedWrites : Answer → ℕ
+acceptedWrites (refused k) = 0
+acceptedWrites (done g) = writeOrAssert g
+
 abbrev pub accepts : List Call → State → ℕ
 accepts [] s = 0
-accepts (c ∷ cs) s = writeOrAssert (step c s .answer) + accepts cs (step c s .after)
+accepts (c ∷ cs) s = acceptedWrites (step c s .answer) + accepts cs (step c s .after)
 
 -- "The entry count is at most accepted writes plus accepted asserts."
 unfoldable pub CountAtMost : Type 0

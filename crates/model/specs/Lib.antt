@@ -5,6 +5,7 @@ pub mod Rows
 pub mod Step
 pub mod Published
 pub mod Array
+pub mod Held
 pub mod Claims
 pub mod Meanings
 pub mod Frames

@@ -9,7 +9,7 @@ use Rattle.conditions.specs.Assignment.{bitAt}
 use Rattle.model.specs.Pairs.{Pair}
 use Rattle.model.specs.Record.{Record, entryAt, addressOf, dataOf}
 use Rattle.model.specs.Published.{Entry, entry, answer, assertHolds, checkHolds, keeps, control}
-use Rattle.model.specs.Step.{State, Call, write, read, assert, check, evaluate, variable, ite, Answer, refused, place, filled, entered, kept, accepted, valued, node, Result, isRefused, step}
+use Rattle.model.specs.Step.{State, write, read, assert, check, access, evaluate, variable, ite, nodeCall, place, filled, entered, kept, accepted, valued, node, done, Result, isRefused, step}
 use Rattle.model.specs.Claims.{pairAt, pairs}
 
 -- entry j of the list, under an assignment
@@ -44,24 +44,24 @@ Enters φ s t c a d = entryValues φ t ≡ entryValues φ s ++ (entry c (address
 
 -- of any state s, under one assignment, each answer and what it leaves
 pub record Meant (φ : ℕ → Bool) (s : State) : Type 0 where
-  pub write-enters : (c a d : List ℕ) (k : ℕ) → step (write c a d) s .answer ≡ place k → (k ≡ s .rec .entries) × Enters φ s (step (write c a d) s .after) (pairAt φ (s .words) c 0) a d
-  pub read-fills : (e a out r : List ℕ) → step (read e a out) s .answer ≡ filled r → (i : ℕ) → i < s .rec .w
-      → pairAt φ (step (read e a out) s .after .words) r i ≡ answer (s .rec .n) (entryValues φ s) (pairAt φ (s .words) e 0) (addressArgument φ s a) i
-  pub assert-condition : (b : ℕ) (a d : List ℕ) → isRefused (step (assert b a d) s .answer) ≡ false
-      → value (step (assert b a d) s .after .words) φ (step (assert b a d) s .after .rec .asserted)
+  pub write-enters : (c a d : List ℕ) (k : ℕ) → step (access (write c a d)) s .answer ≡ done (place k) → (k ≡ s .rec .entries) × Enters φ s (step (access (write c a d)) s .after) (pairAt φ (s .words) c 0) a d
+  pub read-fills : (e a out r : List ℕ) → step (access (read e a out)) s .answer ≡ done (filled r) → (i : ℕ) → i < s .rec .w
+      → pairAt φ (step (access (read e a out)) s .after .words) r i ≡ answer (s .rec .n) (entryValues φ s) (pairAt φ (s .words) e 0) (addressArgument φ s a) i
+  pub assert-condition : (b : ℕ) (a d : List ℕ) → isRefused (step (access (assert b a d)) s .answer) ≡ false
+      → value (step (access (assert b a d)) s .after .words) φ (step (access (assert b a d)) s .after .rec .asserted)
       ≡ (value (s .words) φ (s .rec .asserted) && assertHolds (s .rec .n) (s .rec .w) (entryValues φ s) (value (s .words) φ b) (addressArgument φ s a) (wordArgument φ s d))
-  pub assert-kept : (b : ℕ) (a d : List ℕ) → step (assert b a d) s .answer ≡ kept → keeps (s .rec .n) (s .rec .w) (entryValues φ s) (value (s .words) φ b) (addressArgument φ s a) (wordArgument φ s d) ≡ true
-  pub read-stays : (e a out r : List ℕ) → step (read e a out) s .answer ≡ filled r → entryValues φ (step (read e a out) s .after) ≡ entryValues φ s
-  pub kept-stays : (b : ℕ) (a d : List ℕ) → step (assert b a d) s .answer ≡ kept → entryValues φ (step (assert b a d) s .after) ≡ entryValues φ s
-  pub check-stays : (b : ℕ) (a d : List ℕ) → step (check b a d) s .answer ≡ accepted → entryValues φ (step (check b a d) s .after) ≡ entryValues φ s
-  pub assert-enters : (b : ℕ) (a d : List ℕ) → step (assert b a d) s .answer ≡ entered → Enters φ s (step (assert b a d) s .after) (control (value (s .words) φ b)) a d
-  pub check-condition : (b : ℕ) (a d : List ℕ) → step (check b a d) s .answer ≡ accepted
-      → value (step (check b a d) s .after .words) φ (step (check b a d) s .after .rec .checked)
+  pub assert-kept : (b : ℕ) (a d : List ℕ) → step (access (assert b a d)) s .answer ≡ done kept → keeps (s .rec .n) (s .rec .w) (entryValues φ s) (value (s .words) φ b) (addressArgument φ s a) (wordArgument φ s d) ≡ true
+  pub read-stays : (e a out r : List ℕ) → step (access (read e a out)) s .answer ≡ done (filled r) → entryValues φ (step (access (read e a out)) s .after) ≡ entryValues φ s
+  pub kept-stays : (b : ℕ) (a d : List ℕ) → step (access (assert b a d)) s .answer ≡ done kept → entryValues φ (step (access (assert b a d)) s .after) ≡ entryValues φ s
+  pub check-stays : (b : ℕ) (a d : List ℕ) → step (access (check b a d)) s .answer ≡ done accepted → entryValues φ (step (access (check b a d)) s .after) ≡ entryValues φ s
+  pub assert-enters : (b : ℕ) (a d : List ℕ) → step (access (assert b a d)) s .answer ≡ done entered → Enters φ s (step (access (assert b a d)) s .after) (control (value (s .words) φ b)) a d
+  pub check-condition : (b : ℕ) (a d : List ℕ) → step (access (check b a d)) s .answer ≡ done accepted
+      → value (step (access (check b a d)) s .after .words) φ (step (access (check b a d)) s .after .rec .checked)
       ≡ (value (s .words) φ (s .rec .checked) && checkHolds (s .rec .n) (s .rec .w) (entryValues φ s) (value (s .words) φ b) (addressArgument φ s a) (wordArgument φ s d))
-  pub evaluates : (f a : ℕ) (v : Bool) → step (evaluate f a) s .answer ≡ valued v → v ≡ value (s .words) (bitAt a) f
-  pub variable-node : (v n : ℕ) → step (variable v) s .answer ≡ node n → value (step (variable v) s .after .words) φ n ≡ φ v
-  pub ite-node : (f g h n : ℕ) → step (ite f g h) s .answer ≡ node n
-      → value (step (ite f g h) s .after .words) φ n ≡ cond (value (s .words) φ f) (value (s .words) φ g) (value (s .words) φ h)
+  pub evaluates : (f a : ℕ) (v : Bool) → step (nodeCall (evaluate f a)) s .answer ≡ done (valued v) → v ≡ value (s .words) (bitAt a) f
+  pub variable-node : (v n : ℕ) → step (nodeCall (variable v)) s .answer ≡ done (node n) → value (step (nodeCall (variable v)) s .after .words) φ n ≡ φ v
+  pub ite-node : (f g h n : ℕ) → step (nodeCall (ite f g h)) s .answer ≡ done (node n)
+      → value (step (nodeCall (ite f g h)) s .after .words) φ n ≡ cond (value (s .words) φ f) (value (s .words) φ g) (value (s .words) φ h)
 
 -- of every state, under every 64-bit assignment
 unfoldable pub Demand2 : Type 0
@@ -70,5 +70,5 @@ Demand2 = (s : State) (a : ℕ) → a < 2 ^ 64 → Meant (bitAt a) s
 -- an assert is entered only where some assignment does not keep it
 unfoldable pub EnteredWhere : Type 0
 EnteredWhere =
-    (s : State) (b : ℕ) (a d : List ℕ) → step (assert b a d) s .answer ≡ entered
+    (s : State) (b : ℕ) (a d : List ℕ) → step (access (assert b a d)) s .answer ≡ done entered
     → (k : ℕ) × (k < 2 ^ 64) × (keeps (s .rec .n) (s .rec .w) (entryValues (bitAt k) s) (value (s .words) (bitAt k) b) (addressArgument (bitAt k) s a) (wordArgument (bitAt k) s d) ≡ false)

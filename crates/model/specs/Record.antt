@@ -13,6 +13,19 @@ pub record Record : Type 0 where
   pub asserted : ℕ
   pub checked : ℕ
 
+-- the record with another node count, entry count, assert condition, check condition; nothing else of it ever changes
+abbrev pub withCount : Record → ℕ → Record
+withCount r c = record { n = r .n; w = r .w; count = c; entries = r .entries; asserted = r .asserted; checked = r .checked }
+
+abbrev pub withEntries : Record → ℕ → Record
+withEntries r k = record { n = r .n; w = r .w; count = r .count; entries = k; asserted = r .asserted; checked = r .checked }
+
+abbrev pub withAsserted : Record → ℕ → Record
+withAsserted r a = record { n = r .n; w = r .w; count = r .count; entries = r .entries; asserted = a; checked = r .checked }
+
+abbrev pub withChecked : Record → ℕ → Record
+withChecked r c = record { n = r .n; w = r .w; count = r .count; entries = r .entries; asserted = r .asserted; checked = c }
+
 -- "lowest bit first, h before l, in words and in steps alike": the halves of pair i
 abbrev pub hAt : List ℕ → ℕ → ℕ
 hAt ws i = getD ws (2 * i) 0

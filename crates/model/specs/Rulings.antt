@@ -5,7 +5,7 @@ use mathlib.Core.List.{List, [], _∷_, _++_}
 use Prim.Native.Nat.{ℕ}
 use lib.Dec.{eqb}
 use lib.ListN.{replicate}
-use Rattle.model.specs.Step.{State, Call, write, read, check, Answer, refused, place, filled, entered, kept, accepted, valued, node, Result, step, run, freshRecord, fresh, isRefused}
+use Rattle.model.specs.Step.{State, write, read, check, Call, access, Given, place, filled, entered, kept, accepted, valued, node, Answer, refused, done, isRefused, Result, step, run, freshRecord, fresh}
 
 -- the pairs of the rulings, h before l, of node 1 (true) and node 0 (false)
 abbrev pub one : List ℕ
@@ -24,7 +24,7 @@ bits high low = low ++ high
 -- '"1@0" writes 1 at 0', with enable 1. With another enable it is `write`, of enable, address and data
 infix 70 _at_
 abbrev pub _at_ : List ℕ → List ℕ → Call
-d at a = write one a d
+d at a = access (write one a d)
 
 -- the two words that a read is lent: a pair that no read answers
 abbrev pub lent : List ℕ
@@ -32,8 +32,8 @@ lent = 0 ∷ 0 ∷ []
 
 -- what the last call of a line is to give: a read's words; or, of a check, accepted and the check condition after it, 1 where it "holds" and 0 where "not"
 pub data Expected : Type 0 where
-  fills : List ℕ → Expected
-  leaves : ℕ → Expected
+  reading : List ℕ → Expected
+  leaving : ℕ → Expected
 
 pub record Ruling : Type 0 where
   pub w : ℕ
@@ -48,29 +48,29 @@ ruling w cs c e = record { w = w; before = cs; last = c; expected = e }
 unfoldable pub rulings : List Ruling
 rulings =
     -- "R1 nothing, read 0: X."
-    ruling 1 [] (read one nought lent) (fills unknown)
+    ruling 1 [] (access (read one nought lent)) (reading unknown)
     -- "R2 1@0, read 0: 1."
-    ∷ ruling 1 (one at nought ∷ []) (read one nought lent) (fills one)
+    ∷ ruling 1 (one at nought ∷ []) (access (read one nought lent)) (reading one)
     -- "R3 1@0, read 1: X."
-    ∷ ruling 1 (one at nought ∷ []) (read one one lent) (fills unknown)
+    ∷ ruling 1 (one at nought ∷ []) (access (read one one lent)) (reading unknown)
     -- "R4 1@0 with enable X, read 0: X."
-    ∷ ruling 1 (write unknown nought one ∷ []) (read one nought lent) (fills unknown)
+    ∷ ruling 1 (access (write unknown nought one) ∷ []) (access (read one nought lent)) (reading unknown)
     -- "R5 1@0, again with enable X: 1."
-    ∷ ruling 1 (one at nought ∷ write unknown nought one ∷ []) (read one nought lent) (fills one)
+    ∷ ruling 1 (one at nought ∷ access (write unknown nought one) ∷ []) (access (read one nought lent)) (reading one)
     -- "R6 1@0, 1@1, read X: 1."
-    ∷ ruling 1 (one at nought ∷ one at one ∷ []) (read one unknown lent) (fills one)
+    ∷ ruling 1 (one at nought ∷ one at one ∷ []) (access (read one unknown lent)) (reading one)
     -- "R7 1@0, 0@1, read X: X."
-    ∷ ruling 1 (one at nought ∷ nought at one ∷ []) (read one unknown lent) (fills unknown)
+    ∷ ruling 1 (one at nought ∷ nought at one ∷ []) (access (read one unknown lent)) (reading unknown)
     -- "R8 1@0, 1@1, 0@X, read 0: X."
-    ∷ ruling 1 (one at nought ∷ one at one ∷ nought at unknown ∷ []) (read one nought lent) (fills unknown)
+    ∷ ruling 1 (one at nought ∷ one at one ∷ nought at unknown ∷ []) (access (read one nought lent)) (reading unknown)
     -- "R9 1@0 with enable 0, read 0: X."
-    ∷ ruling 1 (write nought nought one ∷ []) (read one nought lent) (fills unknown)
+    ∷ ruling 1 (access (write nought nought one) ∷ []) (access (read one nought lent)) (reading unknown)
     -- "R10 1@0, read 0 with enable X: X."
-    ∷ ruling 1 (one at nought ∷ []) (read unknown nought lent) (fills unknown)
+    ∷ ruling 1 (one at nought ∷ []) (access (read unknown nought lent)) (reading unknown)
     -- "R11 w=2, 01@0, 10@1: check X against XX holds,"
-    ∷ ruling 2 (bits nought one at nought ∷ bits one nought at one ∷ []) (check 1 unknown (bits unknown unknown)) (leaves 1)
+    ∷ ruling 2 (bits nought one at nought ∷ bits one nought at one ∷ []) (access (check 1 unknown (bits unknown unknown))) (leaving 1)
     -- "against 01 not."
-    ∷ ruling 2 (bits nought one at nought ∷ bits one nought at one ∷ []) (check 1 unknown (bits nought one)) (leaves 0)
+    ∷ ruling 2 (bits nought one at nought ∷ bits one nought at one ∷ []) (access (check 1 unknown (bits nought one))) (leaving 0)
     ∷ []
 
 -- a memory that Fresh left, with n = 1, room for 64 nodes, and 64 list words
@@ -90,8 +90,8 @@ Taken (c ∷ cs) s = ((k : ℕ) → step c s .answer ≡ refused k → ⊥) × T
 
 -- and the last one's answer, and the check condition after it, are as expected
 abbrev pub Gives : Expected → Answer → ℕ → Type 0
-Gives (fills ws) x c = x ≡ filled ws
-Gives (leaves k) x c = (x ≡ accepted) × (c ≡ k)
+Gives (reading ws) x c = x ≡ done (filled ws)
+Gives (leaving k) x c = (x ≡ done accepted) × (c ≡ k)
 
 abbrev pub Says : Ruling → Type 0
 Says r = Taken (r .before) (start (r .w)) × Gives (r .expected) (result r .answer) (result r .after .rec .checked)
@@ -106,20 +106,23 @@ sameWords [] (y ∷ ys) = false
 sameWords (x ∷ xs) [] = false
 sameWords (x ∷ xs) (y ∷ ys) = eqb x y && sameWords xs ys
 
-abbrev pub gives : Expected → Answer → ℕ → Bool
-gives e (refused k) c = false
-gives e (place k) c = false
-gives (fills ws) (filled r) c = sameWords r ws
-gives (leaves k) (filled r) c = false
-gives e entered c = false
-gives e kept c = false
-gives (fills ws) accepted c = false
-gives (leaves k) accepted c = eqb c k
-gives e (valued b) c = false
-gives e (node n) c = false
+abbrev pub fits : Expected → Given → ℕ → Bool
+fits e (place k) c = false
+fits (reading ws) (filled r) c = sameWords r ws
+fits (leaving k) (filled r) c = false
+fits e entered c = false
+fits e kept c = false
+fits (reading ws) accepted c = false
+fits (leaving k) accepted c = eqb c k
+fits e (valued b) c = false
+fits e (node n) c = false
+
+abbrev pub answers : Expected → Answer → ℕ → Bool
+answers e (refused k) c = false
+answers e (done g) c = fits e g c
 
 unfoldable pub ruled : Ruling → Bool
-ruled r = taken (r .before) (start (r .w)) && gives (r .expected) (result r .answer) (result r .after .rec .checked)
+ruled r = taken (r .before) (start (r .w)) && answers (r .expected) (result r .answer) (result r .after .rec .checked)
 
 unfoldable pub allRuled : List Ruling → Bool
 allRuled [] = true

@@ -12,7 +12,7 @@ use Rattle.conditions.specs.Make.{Variable}
 use Rattle.conditions.specs.Ite.{Ite}
 use Rattle.conditions.specs.Value.{value}
 use Rattle.conditions.specs.Assignment.{bitAt}
-use Rattle.model.specs.Record.{Record, appended}
+use Rattle.model.specs.Record.{Record, withCount, withEntries, withAsserted, withChecked, appended}
 use Rattle.model.specs.Access.{Marks, Write, Read, Asserted, Assert, Check}
 use Rattle.model.specs.Rows.{firstRow, row1, row8, writeRows, readRows, assertRows, checkRows, evaluateRows, variableRows, iteRows}
 
@@ -22,51 +22,98 @@ pub record State : Type 0 where
   pub words : List ℕ
   pub list : List ℕ
 
--- a call and what it is lent beside the state: words of any number; the last of a read's are those that it fills
+-- the state with another record, other node words, another list
+abbrev pub withRecord : State → Record → State
+withRecord s r = record { rec = r; words = s .words; list = s .list }
+
+abbrev pub withWords : State → List ℕ → State
+withWords s w = record { rec = s .rec; words = w; list = s .list }
+
+abbrev pub withList : State → List ℕ → State
+withList s l = record { rec = s .rec; words = s .words; list = l }
+
+-- an access and what it is lent beside the state: words of any number; the last of a read's are those that it fills
+pub data Access : Type 0 where
+  write : List ℕ → List ℕ → List ℕ → Access
+  read : List ℕ → List ℕ → List ℕ → Access
+  assert : ℕ → List ℕ → List ℕ → Access
+  check : ℕ → List ℕ → List ℕ → Access
+
+-- a call at which the plain array does nothing: "the node calls (evaluate, variable, Ite)"
+pub data NodeCall : Type 0 where
+  evaluate : ℕ → ℕ → NodeCall
+  variable : ℕ → NodeCall
+  ite : ℕ → ℕ → ℕ → NodeCall
+
 pub data Call : Type 0 where
-  write : List ℕ → List ℕ → List ℕ → Call
-  read : List ℕ → List ℕ → List ℕ → Call
-  assert : ℕ → List ℕ → List ℕ → Call
-  check : ℕ → List ℕ → List ℕ → Call
-  evaluate : ℕ → ℕ → Call
-  variable : ℕ → Call
-  ite : ℕ → ℕ → ℕ → Call
+  access : Access → Call
+  nodeCall : NodeCall → Call
 
 -- "A write answers its entry's place, counted from 0; a read fills 2w lent words; an assert answers entered or kept; a check answers accepted."
--- Evaluate answers a value, variable and Ite a node; a refusal "returns its number".
+-- Evaluate answers a value, variable and Ite a node
+pub data Given : Type 0 where
+  place : ℕ → Given
+  filled : List ℕ → Given
+  entered : Given
+  kept : Given
+  accepted : Given
+  valued : Bool → Given
+  node : ℕ → Given
+
+-- a call gives what it was asked for, or is refused and "returns its number"
 pub data Answer : Type 0 where
   refused : ℕ → Answer
-  place : ℕ → Answer
-  filled : List ℕ → Answer
-  entered : Answer
-  kept : Answer
-  accepted : Answer
-  valued : Bool → Answer
-  node : ℕ → Answer
+  done : Given → Answer
 
 abbrev pub isRefused : Answer → Bool
 isRefused (refused k) = true
-isRefused (place k) = false
-isRefused (filled r) = false
-isRefused entered = false
-isRefused kept = false
-isRefused accepted = false
-isRefused (valued b) = false
-isRefused (node n) = false
+isRefused (done g) = false
+
+-- the words that a read filled; no other call fills any
+pub data Filling : Type 0 where
+  fills : List ℕ → Filling
+  fillsNone : Filling
+
+abbrev pub fillingOf : Given → Filling
+fillingOf (place k) = fillsNone
+fillingOf (filled r) = fills r
+fillingOf entered = fillsNone
+fillingOf kept = fillsNone
+fillingOf accepted = fillsNone
+fillingOf (valued b) = fillsNone
+fillingOf (node n) = fillsNone
+
+abbrev pub filling : Answer → Filling
+filling (refused k) = fillsNone
+filling (done g) = fillingOf g
+
+-- the answer words of a read as it leaves them: those lent, where it is refused
+abbrev pub filledOver : Filling → List ℕ → List ℕ
+filledOver (fills r) out = r
+filledOver fillsNone out = out
+
+abbrev pub answerWords : Answer → List ℕ → List ℕ
+answerWords x out = filledOver (filling x) out
 
 pub record Result : Type 0 where
   pub answer : Answer
   pub after : State
 
--- "Order is by number": the first row that refuses a call, or 0. An assert's 8 and every 9 are met later, where they are built
+-- the first row that refuses a call, in the order in which its rows are listed, or 0. An assert's 8 and every 9 are met later, where they are built
+abbrev pub accessRefusal : Access → State → ℕ
+accessRefusal (write c a d) s = firstRow (writeRows (s .rec) (s .words) (s .list) c a d)
+accessRefusal (read e a out) s = firstRow (readRows (s .rec) (s .words) (s .list) e a out)
+accessRefusal (assert b a d) s = firstRow (assertRows (s .rec) (s .words) (s .list) b a d)
+accessRefusal (check b a d) s = firstRow (checkRows (s .rec) (s .words) (s .list) b a d)
+
+abbrev pub nodeRefusal : NodeCall → State → ℕ
+nodeRefusal (evaluate f φ) s = firstRow (evaluateRows (s .rec) (s .words) f)
+nodeRefusal (variable v) s = firstRow (variableRows (s .rec) (s .words) v)
+nodeRefusal (ite f g h) s = firstRow (iteRows (s .rec) (s .words) f g h)
+
 abbrev pub refusal : Call → State → ℕ
-refusal (write c a d) s = firstRow (writeRows (s .rec) (s .words) (s .list) c a d)
-refusal (read e a out) s = firstRow (readRows (s .rec) (s .words) (s .list) e a out)
-refusal (assert b a d) s = firstRow (assertRows (s .rec) (s .words) (s .list) b a d)
-refusal (check b a d) s = firstRow (checkRows (s .rec) (s .words) (s .list) b a d)
-refusal (evaluate f φ) s = firstRow (evaluateRows (s .rec) (s .words) f)
-refusal (variable v) s = firstRow (variableRows (s .rec) (s .words) v)
-refusal (ite f g h) s = firstRow (iteRows (s .rec) (s .words) f g h)
+refusal (access c) s = accessRefusal c s
+refusal (nodeCall c) s = nodeRefusal c s
 
 -- "A refusal .. returns its number; record, nodes below the count, list and answer are untouched."
 abbrev pub turnedDown : ℕ → State → Result
@@ -74,72 +121,76 @@ turnedDown k s = record { answer = refused k; after = s }
 
 -- "After 9, or 8 in an assert, all node words from the count to capacity are 0"
 abbrev pub cleared : ℕ → State → Result
-cleared k s = record { answer = refused k; after = record { rec = s .rec; words = clearOf (s .words) (s .rec .count); list = s .list } }
+cleared k s = record { answer = refused k; after = withWords s (clearOf (s .words) (s .rec .count)) }
 
--- a program from the state's own count on: refusal 9 where it needs a node past capacity
-unfoldable pub orNine : {A : Type 0} → State → Outcome A → (A → List ℕ → ℕ → Result) → Result
-orNine s x k = cond (x .store .full) (cleared 9 s) (k (x .answer) (x .words) (x .store .count))
+-- what a call comes to that no row refuses: its program needed a node past capacity, and left this store; it has no space for its entry; or it gives this, and leaves this state
+pub data Finish : Type 0 where
+  full : Store → Finish
+  short : Finish
+  gives : Given → State → Finish
+
+-- refused late, after building, and cleared; or done
+unfoldable pub closed : State → Finish → Result
+closed s (full t) = cleared 9 s
+closed s short = cleared 8 s
+closed s (gives g t) = record { answer = done g; after = t }
+
+-- a program, and what follows where it needs no node past capacity
+unfoldable pub unlessFull : {A : Type 0} → Outcome A → (A → List ℕ → ℕ → Finish) → Finish
+unlessFull x k = cond (x .store .full) (full (x .store)) (k (x .answer) (x .words) (x .store .count))
 
 abbrev pub begin : Record → Store
 begin r = record { count = r .count; full = false }
 
--- the record with its new node count
-abbrev pub counted : Record → ℕ → Record
-counted r c = record { n = r .n; w = r .w; count = c; entries = r .entries; asserted = r .asserted; checked = r .checked }
-
+-- the state with the nodes that were built
 abbrev pub grown : State → List ℕ → ℕ → State
-grown s w c = record { rec = counted (s .rec) c; words = w; list = s .list }
-
-abbrev pub withChecked : State → List ℕ → ℕ → ℕ → State
-withChecked s w c v = record { rec = record { n = s .rec .n; w = s .rec .w; count = c; entries = s .rec .entries; asserted = s .rec .asserted; checked = v }; words = w; list = s .list }
-
-abbrev pub withAsserted : State → List ℕ → ℕ → ℕ → State
-withAsserted s w c v = record { rec = record { n = s .rec .n; w = s .rec .w; count = c; entries = s .rec .entries; asserted = v; checked = s .rec .checked }; words = w; list = s .list }
+grown s w c = withRecord (withWords s w) (withCount (s .rec) c)
 
 -- one entry more
 abbrev pub withEntry : State → Marks → List ℕ → List ℕ → State
-withEntry s m a d =
-    record {
-      rec = record { n = s .rec .n; w = s .rec .w; count = s .rec .count; entries = s .rec .entries + 1; asserted = s .rec .asserted; checked = s .rec .checked };
-      words = s .words;
-      list = appended (s .rec) (s .list) (m .hard) (m .soft) a d;
-    }
+withEntry s m a d = withList (withRecord s (withEntries (s .rec) (s .rec .entries + 1))) (appended (s .rec) (s .list) (m .hard) (m .soft) a d)
+
+-- with another assert condition, another check condition
+abbrev pub withAssertCondition : State → ℕ → State
+withAssertCondition s v = withRecord s (withAsserted (s .rec) v)
+
+abbrev pub withCheckCondition : State → ℕ → State
+withCheckCondition s v = withRecord s (withChecked (s .rec) v)
+
+-- what an assert builds before its entry
+abbrev pub assertFirst : ℕ → List ℕ → List ℕ → State → Outcome Asserted
+assertFirst b a d s = Assert (s .rec) (s .list) b a d (s .words) (begin (s .rec))
 
 -- "if Or(Not b, And(A,C)) is 1 the assert is kept, else entered by Write((b, Not b),a,d)"; "8 is met when the entry is needed, before its Write builds anything"
-unfoldable pub enter : State → ℕ → List ℕ → List ℕ → Asserted → List ℕ → ℕ → Result
+unfoldable pub enter : State → ℕ → List ℕ → List ℕ → Asserted → List ℕ → ℕ → Finish
 enter s b a d q w c =
-    cond (eqb (q .keep) 1) (record { answer = kept; after = withAsserted s w c (q .condition) })
+    cond (eqb (q .keep) 1) (gives kept (withAssertCondition (grown s w c) (q .condition)))
     (cond (row8 (s .rec) (s .words) (s .list))
-    (orNine s (Write (s .rec .n) b (q .unless) a w (record { count = c; full = false })) (λ m w c. record { answer = entered; after = withEntry (withAsserted s w c (q .condition)) m a d }))
-    (cleared 8 s))
+    (unlessFull (Write (s .rec .n) b (q .unless) a w (record { count = c; full = false })) (λ m w c. gives entered (withEntry (withAssertCondition (grown s w c) (q .condition)) m a d)))
+    short)
 
--- a call that no row refuses
-unfoldable pub act : Call → State → Result
-act (write c a d) s = orNine s (Write (s .rec .n) (getD c 0 0) (getD c 1 0) a (s .words) (begin (s .rec))) (λ m w k. record { answer = place (s .rec .entries); after = withEntry (grown s w k) m a d })
-act (read e a out) s = orNine s (Read (s .rec) (s .list) (getD e 0 0) (getD e 1 0) a (s .words) (begin (s .rec))) (λ r w k. record { answer = filled r; after = grown s w k })
-act (assert b a d) s = orNine s (Assert (s .rec) (s .list) b a d (s .words) (begin (s .rec))) (enter s b a d)
-act (check b a d) s = orNine s (Check (s .rec) (s .list) b a d (s .words) (begin (s .rec))) (λ v w k. record { answer = accepted; after = withChecked s w k v })
-act (evaluate f φ) s = record { answer = valued (value (s .words) (bitAt φ) f); after = s }
-act (variable v) s = orNine s (Variable v (s .words) (begin (s .rec))) (λ n w k. record { answer = node n; after = grown s w k })
-act (ite f g h) s = orNine s (Ite f g h (s .words) (begin (s .rec))) (λ n w k. record { answer = node n; after = grown s w k })
+-- a call that no row refuses: its program, and what it gives and leaves
+unfoldable pub finishAccess : Access → State → Finish
+finishAccess (write c a d) s = unlessFull (Write (s .rec .n) (getD c 0 0) (getD c 1 0) a (s .words) (begin (s .rec))) (λ m w k. gives (place (s .rec .entries)) (withEntry (grown s w k) m a d))
+finishAccess (read e a out) s = unlessFull (Read (s .rec) (s .list) (getD e 0 0) (getD e 1 0) a (s .words) (begin (s .rec))) (λ r w k. gives (filled r) (grown s w k))
+finishAccess (assert b a d) s = unlessFull (assertFirst b a d s) (enter s b a d)
+finishAccess (check b a d) s = unlessFull (Check (s .rec) (s .list) b a d (s .words) (begin (s .rec))) (λ v w k. gives accepted (withCheckCondition (grown s w k) v))
 
-abbrev pub unless : ℕ → State → Result → Result
-unless zero s x = x
-unless (suc k) s x = turnedDown (suc k) s
+unfoldable pub finishNode : NodeCall → State → Finish
+finishNode (evaluate f φ) s = gives (valued (value (s .words) (bitAt φ) f)) s
+finishNode (variable v) s = unlessFull (Variable v (s .words) (begin (s .rec))) (λ n w k. gives (node n) (grown s w k))
+finishNode (ite f g h) s = unlessFull (Ite f g h (s .words) (begin (s .rec))) (λ n w k. gives (node n) (grown s w k))
+
+abbrev pub finish : Call → State → Finish
+finish (access c) s = finishAccess c s
+finish (nodeCall c) s = finishNode c s
+
+abbrev pub unlessRefused : ℕ → State → Result → Result
+unlessRefused zero s x = x
+unlessRefused (suc k) s x = turnedDown (suc k) s
 
 unfoldable pub step : Call → State → Result
-step c s = unless (refusal c s) s (act c s)
-
--- the answer words of a read as it leaves them: those lent, where it is refused
-abbrev pub answerWords : Answer → List ℕ → List ℕ
-answerWords (refused k) out = out
-answerWords (place k) out = out
-answerWords (filled r) out = r
-answerWords entered out = out
-answerWords kept out = out
-answerWords accepted out = out
-answerWords (valued b) out = out
-answerWords (node n) out = out
+step c s = unlessRefused (refusal c s) s (closed s (finish c s))
 
 -- the state after a list of calls
 unfoldable pub run : List Call → State → State

@@ -1,0 +1,105 @@
+-- Entering an assert that is kept changes no cell, so that a memory which leaves such asserts out tells the same as one in which each is entered.
+use mathlib.Core.Path.{_≡_, refl, sym, ap, _∙_, subst}
+use mathlib.Core.Bool.{Bool, true, false, _&&_, _||_, not, cond}
+use mathlib.Core.List.{List, [], _∷_, _++_}
+use Prim.Native.Nat.{ℕ, zero, suc, _<_}
+use lib.Dec.{T}
+use lib.ListN.{length}
+use Rattle.model.specs.Pairs.{Pair, X, admit, admits, unique, at}
+use Rattle.model.specs.Published.{Entry, entry, union, over, cell, look, certain, answer, inside, keeps, control}
+use Rattle.model.specs.Array.{Event, writes, reads, asserts, checks, nothing}
+use Rattle.model.specs.Held.{Held, heldAfter, Accepted}
+use Rattle.model.proofs.PairLaws.{and-left, and-right, same-eq, one-place, look-to, look-from, inside-to, inside-from, scan-snoc}
+use Rattle.model.proofs.MeansLaws.{anywhere-same}
+
+-- two lists of entries that say the same of each location, as far as w bits go
+pub record SameCells (w : ℕ) (es fs : List Entry) : Type 0 where
+  pub cells : (x : List Bool) (i : ℕ) → i < w → cell es x i ≡ cell fs x i
+
+bool-same : (a b : Bool) → (T a → T b) → (T b → T a) → a ≡ b
+bool-same true true f g = refl
+bool-same true false f g = absurd (f tt)
+bool-same false true f g = absurd (g tt)
+bool-same false false f g = refl
+
+pair-same : (p q : Pair) → ((b : Bool) → T (admit p b) → T (admit q b)) → ((b : Bool) → T (admit q b) → T (admit p b)) → p ≡ q
+pair-same p q f g =
+    let hs : p .h ≡ q .h = bool-same (p .h) (q .h) (f true) (g true) in
+    let ls : p .l ≡ q .l = bool-same (p .l) (q .l) (f false) (g false) in
+    λ i. record { h = hs i; l = ls i }
+
+over-off : (m u : Bool) (e r : Pair) → cond (m && (false && u)) e (cond (m && (false || false && not u)) (union e r) r) ≡ r
+over-off true u e r = refl
+over-off false u e r = refl
+
+-- entering an assert that is kept changes no cell
+pub kept-same : (n w : ℕ) (es : List Entry) (b : Bool) (a d : List Pair) → length a ≡ n → T (not b || unique a) → T (keeps n w es b a d) →
+    SameCells w (es ++ (entry (control b) a d ∷ [])) es
+kept-same n w es false a d na u k = record { cells = λ x i h. scan-snoc es (entry (control false) a d) x i X ∙ over-off (admits a x) (unique a) (at d i) (cell es x i) }
+kept-same n w es true a d na u k = record { cells = λ x i h. scan-snoc es (entry (control true) a d) x i X ∙ go x i h (admits a x) refl (unique a) u }
+  where
+    A : T (inside w (at d) (look n es a))
+    A = and-left (inside w (at d) (look n es a)) (inside w (look n es a) (at d)) k
+
+    C : T (inside w (look n es a) (at d))
+    C = and-right (inside w (at d) (look n es a)) (inside w (look n es a) (at d)) k
+
+    there : (x : List Bool) (i : ℕ) → i < w → T (admits a x) → at d i ≡ cell es x i
+    there x i h m = pair-same (at d i) (cell es x i)
+        (λ b t.
+        let y = look-to n es a i b (inside-to w (at d) (look n es a) A i h b t) in
+        subst (λ (z : List Bool). T (admit (cell es z i) b)) (same-eq (y .0 .0) x (one-place a u (y .0 .0) x (y .0 .1) m)) (y .1))
+        (λ b t. inside-to w (look n es a) (at d) C i h b (look-from n es a na (x, m) i b t))
+
+    go : (x : List Bool) (i : ℕ) → i < w → (m : Bool) → admits a x ≡ m → (v : Bool) → T v →
+        cond (m && (true && v)) (at d i) (cond (m && (false || true && not v)) (union (at d i) (cell es x i)) (cell es x i)) ≡ cell es x i
+    go x i h true e true t = there x i h (subst T (sym e) tt)
+    go x i h false e v t = refl
+    go x i h true e false t = absurd t
+
+-- so entries after it, looks, answers and conditions are the same
+same-add : (w : ℕ) (es fs : List Entry) (e : Entry) → SameCells w es fs → SameCells w (es ++ (e ∷ [])) (fs ++ (e ∷ []))
+same-add w es fs e S = record { cells = λ x i h. scan-snoc es e x i X ∙ ap (λ (r : Pair). over e x i r) (S .cells x i h) ∙ sym (scan-snoc fs e x i X) }
+
+pub same-look : (n w : ℕ) (es fs : List Entry) → SameCells w es fs → (a : List Pair) (i : ℕ) → i < w → look n es a i ≡ look n fs a i
+same-look n w es fs S a i h =
+    let hs : look n es a i .h ≡ look n fs a i .h = anywhere-same n (λ x. admits a x && (cell es x i) .h) (λ x. admits a x && (cell fs x i) .h) (λ x l. ap (λ (p : Pair). admits a x && p .h) (S .cells x i h)) in
+    let ls : look n es a i .l ≡ look n fs a i .l = anywhere-same n (λ x. admits a x && (cell es x i) .l) (λ x. admits a x && (cell fs x i) .l) (λ x l. ap (λ (p : Pair). admits a x && p .l) (S .cells x i h)) in
+    λ k. record { h = hs k; l = ls k }
+
+same-inside : (w : ℕ) (r s d : ℕ → Pair) → ((i : ℕ) → i < w → r i ≡ s i) → inside w r d ≡ inside w s d
+same-inside w r s d e = bool-same (inside w r d) (inside w s d)
+    (λ t. inside-from w s d (λ i h b q. inside-to w r d t i h b (subst (λ (p : Pair). T (admit p b)) (sym (e i h)) q)))
+    (λ t. inside-from w r d (λ i h b q. inside-to w s d t i h b (subst (λ (p : Pair). T (admit p b)) (e i h) q)))
+
+-- two memories that tell the same
+pub record SameHeld (w : ℕ) (s t : Held) : Type 0 where
+  pub entries : SameCells w (s .entries) (t .entries)
+  pub condition : s .condition ≡ t .condition
+
+pub same-itself : (w : ℕ) (s : Held) → SameHeld w s s
+same-itself w s = record { entries = record { cells = λ x i h. refl }; condition = refl }
+
+pub same-answer : (n w : ℕ) (s t : Held) → SameHeld w s t → (e : Pair) (a : List Pair) (i : ℕ) → i < w → answer n (s .entries) e a i ≡ answer n (t .entries) e a i
+same-answer n w s t S e a i h = ap (λ (r : Pair). cond (certain e) r X) (same-look n w (s .entries) (t .entries) (S .entries) a i h)
+
+same-check : (n w : ℕ) (s t : Held) → SameHeld w s t → (b : Bool) (a d : List Pair) →
+    (s .condition && (not b || inside w (look n (s .entries) a) (at d))) ≡ (t .condition && (not b || inside w (look n (t .entries) a) (at d)))
+same-check n w s t S b a d =
+    ap (λ (c : Bool). c && (not b || inside w (look n (s .entries) a) (at d))) (S .condition)
+    ∙ ap (λ (c : Bool). t .condition && (not b || c)) (same-inside w (look n (s .entries) a) (look n (t .entries) a) (at d) (λ i h. same-look n w (s .entries) (t .entries) (S .entries) a i h))
+
+pub same-after : (n w : ℕ) (s t : Held) → SameHeld w s t → (e : Event) → SameHeld w (heldAfter n w s e) (heldAfter n w t e)
+same-after n w s t S (writes c a d) = record { entries = same-add w (s .entries) (t .entries) (entry c a d) (S .entries); condition = S .condition }
+same-after n w s t S (reads e a) = S
+same-after n w s t S (asserts b a d) = record { entries = same-add w (s .entries) (t .entries) (entry (control b) a d) (S .entries); condition = S .condition }
+same-after n w s t S (checks b a d) = record { entries = S .entries; condition = same-check n w s t S b a d }
+same-after n w s t S nothing = S
+
+-- where the left leaves out an assert that it keeps
+pub same-kept : (n w : ℕ) (s t : Held) → SameHeld w s t → (b : Bool) (a d : List Pair) → Accepted n w (asserts b a d) → T (keeps n w (s .entries) b a d) →
+    SameHeld w s (heldAfter n w t (asserts b a d))
+same-kept n w s t S b a d q k =
+    let e = entry (control b) a d in
+    let K = kept-same n w (s .entries) b a d (q .0 .1) (q .2) k in
+    record { entries = record { cells = λ x i h. sym (K .cells x i h) ∙ same-add w (s .entries) (t .entries) e (S .entries) .cells x i h }; condition = S .condition }
