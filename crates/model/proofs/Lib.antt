@@ -15,6 +15,7 @@ pub mod Demand2
 pub mod ValidLaws
 pub mod FrameLaws
 pub mod Demand3
+pub mod ChainLaws
 pub mod RulingLaws
 pub mod StayLaws
 pub mod NineLaws

@@ -9,6 +9,7 @@ pub mod Held
 pub mod Claims
 pub mod Meanings
 pub mod Frames
+pub mod Chain
 pub mod Rulings
 pub mod Table
 pub mod Orders

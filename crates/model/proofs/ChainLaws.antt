@@ -1,0 +1,86 @@
+-- A chain of calls that met their promises is the model's run of those calls; so it has demand 3, and the count of its entries.
+use mathlib.Core.Path.{_≡_, refl, sym, ap, subst, _∙_}
+use mathlib.Core.Logic.{_↔_}
+use mathlib.Core.Bool.{Bool, true≢false}
+use mathlib.Core.List.{List, [], _∷_}
+use Prim.Native.Nat.{ℕ, zero, suc, _+_, _^_, _<_, _≤_}
+use native.Mathlib.Omega.{arith}
+use lib.Dec.{T}
+use Rattle.conditions.specs.Value.{value}
+use Rattle.conditions.specs.Assignment.{bitAt}
+use Rattle.model.specs.Record.{Record}
+use Rattle.model.specs.Step.{State, Call, accepted, Answer, refused, done, Result, isRefused, step, run, Fresh, fresh}
+use Rattle.model.specs.Array.{Event, Run, observed, Returns, Allowed}
+use Rattle.model.specs.Claims.{event, events, BitMay, May, Begins, Exactly, Demand3, FromFresh}
+use Rattle.model.specs.Frames.{acceptedWrites, accepts, CountAtMost}
+use Rattle.model.specs.Chain.{numbered, freshed, Link, Chained, lastState, eventsOf, MayBe, ExactlyRuns, ChainExactly, writesOf, ChainCount}
+use Rattle.model.proofs.Demand3.{demand3, from-fresh}
+use Rattle.model.proofs.FrameLaws.{count-at-most}
+
+calls : List Link → List Call
+calls [] = []
+calls (k ∷ ks) = k .call ∷ calls ks
+
+chain-run : (s : State) (ks : List Link) → Chained s ks → run (calls ks) s ≡ lastState s ks
+unfolding run calls
+chain-run s [] C = refl
+chain-run s (k ∷ ks) C = ap (λ (x : Result). run (calls ks) (x .after)) (C .0) ∙ chain-run (k .after) ks (C .1)
+
+chain-events : (φ : ℕ → Bool) (s : State) (ks : List Link) → Chained s ks → events φ s (calls ks) ≡ eventsOf φ s ks
+unfolding calls
+chain-events φ s [] C = refl
+chain-events φ s (k ∷ ks) C =
+    ap (λ (x : Result). event φ s (k .call) (x .answer) ∷ events φ (x .after) (calls ks)) (C .0) ∙ ap (λ (es : List Event). event φ s (k .call) (k .answer) ∷ es) (chain-events φ (k .after) ks (C .1))
+
+chain-may : (φ : ℕ → Bool) (s : State) (ks : List Link) (j i : ℕ) (b : Bool) → Chained s ks → May φ s (calls ks) j i b ≡ MayBe φ ks j i b
+unfolding calls
+chain-may φ s [] j i b C = refl
+chain-may φ s (k ∷ ks) zero i b C = ap (λ (x : Result). BitMay φ (x .after .words) (x .answer) i b) (C .0)
+chain-may φ s (k ∷ ks) (suc j) i b C = ap (λ (x : Result). May φ (x .after) (calls ks) j i b) (C .0) ∙ chain-may φ (k .after) ks j i b (C .1)
+
+-- from any state in which lists of calls may begin
+pub chain-from : (s : State) → Begins s → (ks : List Link) → Chained s ks → (a : ℕ) → a < 2 ^ 64 → ExactlyRuns s ks (bitAt a)
+unfolding Demand3
+chain-from s B ks C a h =
+    let φ = bitAt a in
+    let X = demand3 s B (calls ks) a h in
+    let E = chain-events φ s ks C in
+    record {
+      bits = λ j i m b.
+          subst (λ (P : Type 0). P ↔ ((r : Run (s .rec .w) (eventsOf φ s ks)) × Returns (observed (s .rec .w) (eventsOf φ s ks) r j) i b)) (chain-may φ s ks j i b C)
+          (subst (λ (es : List Event). May φ s (calls ks) j i b ↔ ((r : Run (s .rec .w) es) × Returns (observed (s .rec .w) es r j) i b)) E (X .bits j i m b));
+      checking = subst (λ (t : State). T (value (t .words) φ (t .rec .checked)) ↔ ((r : Run (s .rec .w) (eventsOf φ s ks)) (j : ℕ) → Allowed (observed (s .rec .w) (eventsOf φ s ks) r j))) (chain-run s ks C)
+          (subst (λ (es : List Event). T (value (run (calls ks) s .words) φ (run (calls ks) s .rec .checked)) ↔ ((r : Run (s .rec .w) es) (j : ℕ) → Allowed (observed (s .rec .w) es r j))) E (X .checking));
+    }
+
+-- an answer numbered 0 is the accepted one
+accepted-zero : (k : ℕ) → numbered k ≡ done accepted → k ≡ 0
+accepted-zero zero e = refl
+accepted-zero (suc k) e = absurd (true≢false (ap isRefused e))
+
+-- an accepted Fresh leaves a state in which lists of calls may begin
+fresh-begins : (given : Record) (n w : ℕ) (ws : List ℕ) (rec : Record) (words list : List ℕ) → freshed (fresh given n w ws) ≡ (done accepted, rec, words) → Begins (record { rec = rec; words = words; list = list })
+unfolding FromFresh
+fresh-begins given n w ws rec words list e =
+    let x = fresh given n w ws in
+    let z = accepted-zero (x .answer) (ap (λ (t : Answer × Record × List ℕ). t .0) e) in
+    subst (λ (t : Answer × Record × List ℕ). Begins (record { rec = t .1; words = t .2; list = list })) e (from-fresh given n w ws list z)
+
+pub chain-exactly : ChainExactly
+unfolding ChainExactly
+chain-exactly given n w ws rec words list e ks C a h = chain-from (record { rec = rec; words = words; list = list }) (fresh-begins given n w ws rec words list e) ks C a h
+
+-- and the count of its entries
+chain-accepts : (s : State) (ks : List Link) → Chained s ks → accepts (calls ks) s ≡ writesOf ks
+unfolding calls
+chain-accepts s [] C = refl
+chain-accepts s (k ∷ ks) C =
+    ap (λ (x : Result). acceptedWrites (x .answer) + accepts (calls ks) (x .after)) (C .0) ∙ ap (λ (m : ℕ). acceptedWrites (k .answer) + m) (chain-accepts (k .after) ks (C .1))
+
+pub chain-count : ChainCount
+unfolding ChainCount CountAtMost
+chain-count given n w ws rec words list e ks C =
+    let s : State = record { rec = rec; words = words; list = list } in
+    let B = fresh-begins given n w ws rec words list e in
+    let m : lastState s ks .rec .entries ≤ rec .entries + writesOf ks = rw (← chain-run s ks C, ← chain-accepts s ks C) (count-at-most (calls ks) s) in
+    omega (arith, m, B .entries)

@@ -1,0 +1,81 @@
+-- Of the calls as they ran: what a call promises, and demand 3 and the count of entries of every chain of states and answers in which each call met its promise.
+use mathlib.Core.Path.{_≡_}
+use mathlib.Core.Logic.{_↔_}
+use mathlib.Core.Bool.{Bool}
+use mathlib.Core.List.{List, [], _∷_}
+use Prim.Native.Nat.{ℕ, zero, suc, _+_, _^_, _<_, _≤_}
+use lib.Dec.{T}
+use Rattle.conditions.specs.Value.{value}
+use Rattle.conditions.specs.Assignment.{bitAt}
+use Rattle.model.specs.Record.{Record}
+use Rattle.model.specs.Step.{State, Access, NodeCall, Call, access, nodeCall, accepted, Answer, refused, done, Result, step, Fresh, fresh}
+use Rattle.model.specs.Array.{Event, Run, observed, Returns, Allowed}
+use Rattle.model.specs.Claims.{event, BitMay}
+use Rattle.model.specs.Frames.{acceptedWrites}
+
+-- a call takes a state to the next, with this answer
+abbrev pub Answered : Call → State → State → Answer → Type 0
+Answered c s t a = step c s ≡ record { answer = a; after = t }
+
+-- the promise of an access, and of a node call
+abbrev pub Answers : Access → State → State → Answer → Type 0
+Answers c s t a = Answered (access c) s t a
+
+abbrev pub AnswersNode : NodeCall → State → State → Answer → Type 0
+AnswersNode c s t a = Answered (nodeCall c) s t a
+
+-- what a Fresh answers by its number, of which 0 is no row's, and leaves
+abbrev pub numbered : ℕ → Answer
+numbered zero = done accepted
+numbered (suc k) = refused (suc k)
+
+abbrev pub freshed : Fresh → Answer × Record × List ℕ
+freshed x = (numbered (x .answer), x .rec, x .words)
+
+-- a call, what it answered, and the record, node words and list that it left
+pub record Link : Type 0 where
+  pub call : Call
+  pub answer : Answer
+  pub after : State
+
+-- "Record, node words and list go from call to call as the last one left them": each link meets the call's contract
+abbrev pub Chained : State → List Link → Type 0
+Chained s [] = Unit {0}
+Chained s (k ∷ ks) = Answered (k .call) s (k .after) (k .answer) × Chained (k .after) ks
+
+abbrev pub lastState : State → List Link → State
+lastState s [] = s
+lastState s (k ∷ ks) = lastState (k .after) ks
+
+-- what the array is fed: "each call with its arguments, and which calls were refused"
+abbrev pub eventsOf : (ℕ → Bool) → State → List Link → List Event
+eventsOf φ s [] = []
+eventsOf φ s (k ∷ ks) = event φ s (k .call) (k .answer) ∷ eventsOf φ (k .after) ks
+
+-- link j is an accepted read, bit i of whose answer may be b, "in its answer words and the node words as that read left them"
+abbrev pub MayBe : (ℕ → Bool) → List Link → ℕ → ℕ → Bool → Type 0
+MayBe φ [] j i b = ⊥
+MayBe φ (k ∷ ks) zero i b = BitMay φ (k .after .words) (k .answer) i b
+MayBe φ (k ∷ ks) (suc j) i b = MayBe φ ks j i b
+
+-- the claim of one chain, under one assignment: its read bits, and "the check condition in record and node words after the last call"
+pub record ExactlyRuns (s : State) (ks : List Link) (φ : ℕ → Bool) : Type 0 where
+  pub bits : (j i : ℕ) → i < s .rec .w → (b : Bool)
+      → MayBe φ ks j i b ↔ ((r : Run (s .rec .w) (eventsOf φ s ks)) × Returns (observed (s .rec .w) (eventsOf φ s ks) r j) i b)
+  pub checking : T (value (lastState s ks .words) φ (lastState s ks .rec .checked))
+      ↔ ((r : Run (s .rec .w) (eventsOf φ s ks)) (j : ℕ) → Allowed (observed (s .rec .w) (eventsOf φ s ks) r j))
+
+-- "The first gets the record and node words that an accepted Fresh left, and a list of any words, for any n, w and sizes."
+unfoldable pub ChainExactly : Type 0
+ChainExactly = (given : Record) (n w : ℕ) (ws : List ℕ) (rec : Record) (words list : List ℕ) → freshed (fresh given n w ws) ≡ (done accepted, rec, words)
+    → (ks : List Link) → Chained (record { rec = rec; words = words; list = list }) ks → (a : ℕ) → a < 2 ^ 64 → ExactlyRuns (record { rec = rec; words = words; list = list }) ks (bitAt a)
+
+-- the accepted writes and asserts of a chain, by its answers
+abbrev pub writesOf : List Link → ℕ
+writesOf [] = 0
+writesOf (k ∷ ks) = acceptedWrites (k .answer) + writesOf ks
+
+-- "The entry count is at most accepted writes plus accepted asserts."
+unfoldable pub ChainCount : Type 0
+ChainCount = (given : Record) (n w : ℕ) (ws : List ℕ) (rec : Record) (words list : List ℕ) → freshed (fresh given n w ws) ≡ (done accepted, rec, words)
+    → (ks : List Link) → Chained (record { rec = rec; words = words; list = list }) ks → lastState (record { rec = rec; words = words; list = list }) ks .rec .entries ≤ writesOf ks
