@@ -95,9 +95,9 @@ maskHalf e r = Ite e r 1
 
 unfoldable pub Read : Record → List ℕ → ℕ → ℕ → List ℕ → Build (List ℕ)
 Read r l eh el a = do
-  word ← Look r l a
+  looked ← Look r l a
   e ← Certain eh el
-  EachHalf (λ k. maskHalf e) (2 * r .w) word
+  EachHalf (λ k. maskHalf e) (2 * r .w) looked
 
 -- "C = 1, and for each bit C = And(C, Or(Not r.h, d.h)), then with l": for each half of x and y
 unfoldable pub insideHalf : ℕ → ℕ → ℕ → Build ℕ
@@ -128,11 +128,11 @@ pub record Asserted : Type 0 where
 unfoldable pub Assert : Record → List ℕ → ℕ → List ℕ → List ℕ → Build Asserted
 Assert r l b a d = do
   word ← Look r l a
-  x ← Inside (2 * r .w) d word
+  below ← Inside (2 * r .w) d word
   v ← Not b
-  y ← Or v x
+  y ← Or v below
   condition ← And (r .asserted) y
-  c ← Inside (2 * r .w) word d
-  z ← And x c
+  above ← Inside (2 * r .w) word d
+  z ← And below above
   k ← Or v z
   pure (record { condition = condition; unless = v; keep = k })
