@@ -22,15 +22,14 @@ use Rattle.model.specs.Record.{listCapacity}
 use Rattle.model.specs.Access.{Write, Read, Check}
 use Rattle.model.specs.Rows.{Row, firstRow, users, row1, row8, writeRows, readRows, assertRows, checkRows, evaluateRows, variableRows, iteRows}
 use Rattle.model.specs.Step.{State, withWords, write, read, assert, check, evaluate, variable, ite, Call, access, nodeCall, Given, place, filled, entered, kept, accepted, node, Answer, refused, done, isRefused, Filling, fills, fillsNone, filling, Result, refusal, turnedDown, Finish, full, short, gives, closed, unlessFull, begin, grown, withEntry, withAssertCondition, assertFirst, enter, finishAccess, finishNode, finish, unlessRefused, step, run, fresh, freshRows, freshUnless, freshRecord}
-use Rattle.model.specs.Claims.{pairAt, pairs}
-use Rattle.model.specs.Meanings.{entryValues}
+use Rattle.model.specs.Claims.{pairs}
 use Rattle.model.specs.Frames.{clears, wordsAfter, RefusalLeaves, RefusalNumber, Extended, SuccessLeaves, Valid, StaysValid, NoRow123, FreshValid, FreshNoRow123, writeOrAssert, acceptedWrites, CountAtMost}
 use Rattle.model.proofs.MeansLaws.{Means, user-means}
-use Rattle.model.proofs.AccessLaws.{write-means, read-means, check-means, assert-means}
+use Rattle.model.proofs.AccessLaws.{write-means}
 use Rattle.model.proofs.ThirdLaws.{User, is-third}
 use Rattle.model.proofs.FactLaws.{row1-tells, names, users-tell, space-room, write-facts, read-facts, check-facts, assert-facts, variable-facts, ite-facts, fresh-told}
-use Rattle.model.proofs.RowLaws.{length-pairs, name-means, names-halves}
-use Rattle.model.proofs.EntryLaws.{holds-values}
+use Rattle.model.proofs.RowLaws.{length-pairs, names-halves}
+use Rattle.model.proofs.ProgramLaws.{read-program, check-program, assert-program}
 use Rattle.model.proofs.ValidLaws.{user-stays, user-grows, withConditions, users-stay, conditions-valid, conditions-extended, entry-extended, entry-valid}
 
 -- p holds of the number of each row that refuses
@@ -166,22 +165,11 @@ finish-leaves (access (write c a d)) s e =
     entry-leaves (access (write c a d)) s (place (r .entries)) (s .words) (r .count) (extends-refl (s .words) (r .count)) (F .memory .standard) refl (r .asserted) (λ u. u)
     (getD c 0 0) (getD c 1 0) (names r (s .words) _ .so (F .enable .names 0 (omega arith))) (names r (s .words) _ .so (F .enable .names 1 (omega arith))) a d (F .address .long) (F .word .long)
     (users-tell r (s .words) a (2 * r .n) (F .address .long) .so (F .address .names)) (users-tell r (s .words) d (2 * r .w) (F .word .long) .so (F .word .names)) (space-room r (s .words) (s .list) (F .space))
-finish-leaves (access (read en a out)) s e =
-    let F = read-facts s en a out e in
-    let S = F .memory .standard in
-    let C = names-halves σ (s .rec) (s .words) S en 1 (F .enable .names) in
-    let A = names-halves σ (s .rec) (s .words) S a (s .rec .n) (F .address .names) in
-    let X = read-means (s .rec) (s .list) (F .memory .range .n-most) (entryValues σ s) (getD en 0 0) (getD en 1 0) a (pairAt σ (s .words) en 0) (pairs σ (s .words) a (s .rec .n)) (length-pairs σ (s .words) a 0 (s .rec .n))
-    (s .words) (begin (s .rec)) S (holds-values σ s (F .memory) .entries) (C .half 0 (omega arith)) (C .half 1 (omega arith)) A in
-    grown-leaves (access (read en a out)) s X filled
+finish-leaves (access (read en a out)) s e = grown-leaves (access (read en a out)) s (read-program σ s en a out (read-facts s en a out e)) filled
 finish-leaves (access (assert b a d)) s e =
     let K = assert-facts s b a d e .compared in
-    let S = K .memory .standard in
     let r = s .rec in
-    let A = names-halves σ r (s .words) S a (r .n) (K .address .names) in
-    let D = names-halves σ r (s .words) S d (r .w) (K .word .names) in
-    let X = assert-means r (s .list) (K .memory .range .n-most) (entryValues σ s) b _ _ a d (pairs σ (s .words) a (r .n)) (pairs σ (s .words) d (r .w)) (length-pairs σ (s .words) a 0 (r .n)) (s .words) (begin r) S
-    (holds-values σ s (K .memory) .entries) (name-means σ r (s .words) S (K .control)) A D (name-means σ r (s .words) S (K .memory .listed .asserted)) in
+    let X = assert-program σ s b a d K in
     let x = assertFirst b a d s in
     let n = x .store .count in
     let v = x .answer .condition in
@@ -194,13 +182,8 @@ finish-leaves (access (assert b a d)) s e =
     a d (K .address .long) (K .word .long) (users-tell r (s .words) a (2 * r .n) (K .address .long) .so (K .address .names)) (users-tell r (s .words) d (2 * r .w) (K .word .long) .so (K .word .names)) (ltb-true _ _ room)))
     (λ room. rw (t, room) (short-leaves b a d s))))
 finish-leaves (access (check b a d)) s e =
-    let K = check-facts s b a d e in
-    let S = K .memory .standard in
+    let X = check-program σ s b a d (check-facts s b a d e) in
     let r = s .rec in
-    let A = names-halves σ r (s .words) S a (r .n) (K .address .names) in
-    let D = names-halves σ r (s .words) S d (r .w) (K .word .names) in
-    let X = check-means r (s .list) (K .memory .range .n-most) (entryValues σ s) b _ _ a d (pairs σ (s .words) a (r .n)) (pairs σ (s .words) d (r .w)) (length-pairs σ (s .words) a 0 (r .n)) (s .words) (begin r) S
-    (holds-values σ s (K .memory) .entries) (name-means σ r (s .words) S (K .control)) A D (name-means σ r (s .words) S (K .memory .listed .checked)) in
     let x = Check r (s .list) b a d (s .words) (begin r) in
     nine-leaves (access (check b a d)) s x _
     (λ f. conditions-leave (access (check b a d)) s accepted (x .words) (x .store .count) (X .extends) (X .standard) (r .asserted) (x .answer) (user-grows (X .extends) (r .asserted)) (λ u. means-user (X .post)))
@@ -287,11 +270,7 @@ module _ (e a out : List ℕ) (s : State) where
   read-acts z =
       let R = s .rec in
       let w = s .words in
-      let F = read-facts s e a out z in
-      let S = F .memory .standard in
-      let C = names-halves σ R w S e 1 (F .enable .names) in
-      let A = names-halves σ R w S a (R .n) (F .address .names) in
-      let X = read-means R (s .list) (F .memory .range .n-most) (entryValues σ s) (getD e 0 0) (getD e 1 0) a (pairAt σ w e 0) (pairs σ w a (R .n)) (length-pairs σ w a 0 (R .n)) w (begin R) S (holds-values σ s (F .memory) .entries) (C .half 0 (omega arith)) (C .half 1 (omega arith)) A in
+      let X = read-program σ s e a out (read-facts s e a out z) in
       let x = Read R (s .list) (getD e 0 0) (getD e 1 0) a w (begin R) in
       go x (x .store .full) (X .post .size) (λ i h. X .post .halves .half i (omega (arith, X .post .size)) .below)
     where

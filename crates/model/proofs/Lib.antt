@@ -11,6 +11,7 @@ pub mod FactLaws
 pub mod RowLaws
 pub mod StepLaws
 pub mod EntryLaws
+pub mod ProgramLaws
 pub mod Demand2
 pub mod ValidLaws
 pub mod FrameLaws
