@@ -2,7 +2,7 @@
 use mathlib.Core.Path.{_≡_, refl, sym, _∙_}
 use mathlib.Core.Bool.{Bool, true, false, cond, not, _&&_, true≢false}
 use mathlib.Core.Logic.{_⊎_, inl, inr}
-use mathlib.Core.List.{List, [], _∷_}
+use mathlib.Core.List.{List, [], _∷_, _++_}
 use Prim.Native.Nat.{ℕ, zero, suc, _+_, _*_, _/_, _^_, _<_, _≤_}
 use native.Mathlib.Nat.{le-div-iff-mul-le}
 use native.Mathlib.Omega.{arith}
@@ -71,6 +71,15 @@ told (t ∷ ts) (f ∷ fs) q A = go (t .1) refl (and-both _ _ q) (told ts fs)
 pub not-both : (k : ℕ) (fs : List Fact) → AllHold fs → FirstFails k fs → ⊥
 not-both k [] a x = x
 not-both k (f ∷ fs) a x = either (λ y. y .1 (a .0)) (λ y. not-both k fs (a .1) (y .1)) x
+
+-- rows that follow others are asked where none of those refuses
+pub first-append : (ts us : List Row) → numbered ts ≡ true → firstRow ts ≡ 0 → firstRow (ts ++ us) ≡ firstRow us
+first-append [] us q e = refl
+first-append (t ∷ ts) us q e = go (t .1) e (and-both (ltb 0 (t .0)) (numbered ts) q) (first-append ts us)
+  where
+    go : (b : Bool) → cond b (firstRow ts) (t .0) ≡ 0 → (ltb 0 (t .0) ≡ true) × (numbered ts ≡ true) → (numbered ts ≡ true → firstRow ts ≡ 0 → firstRow (ts ++ us) ≡ firstRow us) → cond b (firstRow (ts ++ us)) (t .0) ≡ firstRow us
+    go true e n f = f (n .1) e
+    go false e n f = absurd (omega (arith, ltb-true 0 (t .0) (n .0)))
 
 -- tests and facts joined
 module _ {a b : Bool} {P Q : Type 0} (A : Tells a P) (B : Tells b Q) where

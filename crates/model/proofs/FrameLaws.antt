@@ -162,7 +162,7 @@ unfolding finishAccess finishNode enter
 finish-leaves (access (write c a d)) s e =
     let F = write-facts s c a d e in
     let r = s .rec in
-    entry-leaves (access (write c a d)) s (place (r .entries)) (s .words) (r .count) (extends-refl (s .words) (r .count)) (F .memory .standard) refl (r .asserted) (λ u. u)
+    entry-leaves (access (write c a d)) s _ (s .words) (r .count) (extends-refl (s .words) (r .count)) (F .memory .standard) refl (r .asserted) (λ u. u)
     (getD c 0 0) (getD c 1 0) (names r (s .words) _ .so (F .enable .names 0 (omega arith))) (names r (s .words) _ .so (F .enable .names 1 (omega arith))) a d (F .address .long) (F .word .long)
     (users-tell r (s .words) a (2 * r .n) (F .address .long) .so (F .address .names)) (users-tell r (s .words) d (2 * r .w) (F .word .long) .so (F .word .names)) (space-room r (s .words) (s .list) (F .space))
 finish-leaves (access (read en a out)) s e = grown-leaves (access (read en a out)) s (read-program σ s en a out (read-facts s en a out e)) filled
