@@ -20,7 +20,7 @@ use Rattle.conditions.specs.User.{isUser}
 use Rattle.conditions.specs.Meet.{neither, together, SomeNeither, SomeTogether, Decides}
 use Rattle.conditions.proofs.Promises.{standard-is, is-standard, user-stands, stands-user, neither-decides, together-decides}
 use Rattle.model.specs.Record.{Record, hAt, lAt, size, listCapacity}
-use Rattle.model.specs.Rows.{Row, firstRow, users, legalPairs, row1, row2, row3, row8, writeRows, readRows, checkRows, assertRows, evaluateRows, variableRows, iteRows}
+use Rattle.model.specs.Rows.{Row, firstRow, users, legalPairs, row1, row2, row3, spaceFor, writeRows, readRows, checkRows, assertRows, evaluateRows, variableRows, iteRows}
 use Rattle.model.specs.Step.{State, write, read, assert, check, evaluate, variable, ite, Call, access, nodeCall, refusal, freshRecord, freshRows}
 use Rattle.model.specs.Table.{Fact, InRange, Names, AllName, Listed, NoneNeither, NoneUnknown, Space, writeFacts, readFacts, checkFacts, assertFacts, evaluateFacts, variableFacts, iteFacts, facts, freshFacts, AllHold, FirstFails, Slice, MemoryFacts, WriteFacts, ReadFacts, CheckFacts, AssertFacts, NodeFacts}
 use Rattle.model.proofs.ThirdLaws.{third-is, is-third}
@@ -81,6 +81,10 @@ first-append (t ∷ ts) us q e = go (t .1) e (and-both (ltb 0 (t .0)) (numbered 
     go true e n f = f (n .1) e
     go false e n f = absurd (omega (arith, ltb-true 0 (t .0) (n .0)))
 
+-- three tests joined
+pub and3 : (a b c : Bool) → (a && b && c) ≡ true → (a ≡ true) × (b ≡ true) × (c ≡ true)
+and3 a b c e = let p = and-both (a && b) c e in let q = and-both a b (p .0) in (q .0, q .1, p .1)
+
 -- tests and facts joined
 module _ {a b : Bool} {P Q : Type 0} (A : Tells a P) (B : Tells b Q) where
   two : Tells (a && b) (P × Q)
@@ -89,7 +93,7 @@ module _ {a b : Bool} {P Q : Type 0} (A : Tells a P) (B : Tells b Q) where
   three : {c : Bool} {R : Type 0} → Tells c R → Tells (a && b && c) (P × Q × R)
   three {c} C =
       record {
-        is = λ e. let p = and-both (a && b) c e in let q = and-both a b (p .0) in (A .is (q .0), B .is (q .1), C .is (p .1));
+        is = λ e. let p = and3 a b c e in (A .is (p .0), B .is (p .1), C .is (p .2));
         so = λ x. both-and (both-and (A .so (x .0)) (B .so (x .1))) (C .so (x .2));
       }
 
@@ -154,15 +158,15 @@ module _ (r : Record) (w : List ℕ) where
             is-third s (record { fits = is-fits r l (r .entries) (L .within) (L .most); words = λ k h. names (getD l k 0) .so (L .words k h); asserted = names (r .asserted) .so (L .asserted); checked = names (r .checked) .so (L .checked) });
       }
 
-  pub row8-tells : (l : List ℕ) → Tells (row8 r w l) (Space r w l)
-  row8-tells l =
+  pub row8-tells : (k : ℕ) (l : List ℕ) → Tells (spaceFor r w k l) (Space r w k l)
+  row8-tells k l =
       record {
-        is = λ e. let h : r .entries + 1 ≤ listCapacity r l = omega (arith, ltb-true (r .entries) (listCapacity r l) e) in let F = fits-is r l (r .entries + 1) h in record { within = F .0; most = F .1 };
-        so = λ S. lt-ltb (r .entries) (listCapacity r l) (omega (arith, is-fits r l (r .entries + 1) (S .within) (S .most)));
+        is = λ e. let F = fits-is r l (r .entries + k) (leb-true (r .entries + k) (listCapacity r l) e) in record { within = F .0; most = F .1 };
+        so = λ S. le-leb (r .entries + k) (listCapacity r l) (is-fits r l (r .entries + k) (S .within) (S .most));
       }
 
-  pub space-room : (l : List ℕ) → Space r w l → r .entries < listCapacity r l
-  space-room l S = ltb-true (r .entries) (listCapacity r l) (row8-tells l .so S)
+  pub space-room : (l : List ℕ) → Space r w 1 l → r .entries < listCapacity r l
+  space-room l S = omega (arith, leb-true (r .entries + 1) (listCapacity r l) (row8-tells 1 l .so S))
 
   pub users-tell : (ws : List ℕ) (k : ℕ) → length ws ≡ k → Tells (users r w ws) (AllName r w ws k)
   users-tell ws k len = rw len (each (λ i. isUser w (r .count) (getD ws i 0)) (λ i. Names r w (getD ws i 0)) k (λ i l. names (getD ws i 0)))
@@ -209,7 +213,7 @@ module _ (r : Record) (w : List ℕ) where
             λ N. (
               refl,
               three (pairs-tell S c 1 (N .0)) (pairs-tell S a (r .n) (N .1)) (pairs-tell S d (r .w) (N .2)),
-              λ Q. (refl, row8-tells l, λ Z. tt),
+              λ Q. (refl, row8-tells 1 l, λ Z. tt),
             ),
           ),
         ),

@@ -6,7 +6,7 @@ use Prim.Native.Nat.{ℕ, zero, suc, _+_, _*_, _<_, _≤_}
 use native.Mathlib.Omega.{arith}
 use lib.Dec.{eqb, leb}
 use lib.ListN.{length, getD}
-use borrow.Author.Tests.{leb-true, ltb-true, not-true}
+use borrow.Author.Tests.{leb-true, not-true}
 use Rattle.nodes.specs.Words.{withTerminals}
 use Rattle.nodes.specs.Standard.{Standard}
 use Rattle.nodes.specs.Extends.{Agree, Extends}
@@ -179,7 +179,7 @@ finish-leaves (access (assert b a d)) s e =
     (λ t. rw t (conditions-leave c s kept (x .words) n (X .extends) (X .standard) v (r .checked) (λ u. means-user (X .post .condition)) (user-grows (X .extends) (r .checked))))
     (λ t. split (row8 r (s .words) (s .list))
     (λ room. rw (t, room) (entry-leaves c s entered (x .words) n (X .extends) (X .standard) refl v (λ u. means-user (X .post .condition)) b (x .answer .unless) (user-grows (X .extends) b (names r (s .words) b .so (K .control))) (means-user (X .post .unless))
-    a d (K .address .long) (K .word .long) (users-tell r (s .words) a (2 * r .n) (K .address .long) .so (K .address .names)) (users-tell r (s .words) d (2 * r .w) (K .word .long) .so (K .word .names)) (ltb-true _ _ room)))
+    a d (K .address .long) (K .word .long) (users-tell r (s .words) a (2 * r .n) (K .address .long) .so (K .address .names)) (users-tell r (s .words) d (2 * r .w) (K .word .long) .so (K .word .names)) (omega (arith, leb-true (r .entries + 1) (listCapacity r (s .list)) room))))
     (λ room. rw (t, room) (short-leaves b a d s))))
 finish-leaves (access (check b a d)) s e =
     let X = check-program σ s b a d (check-facts s b a d e) in

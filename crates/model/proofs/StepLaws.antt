@@ -9,7 +9,7 @@ use native.Mathlib.Decide.{decLt}
 use lib.Dec.{T, eqb}
 use lib.ListN.{length, getD, length-append, List·getD-append}
 use lib.Seq.{getD-at}
-use borrow.Author.Tests.{eqb-true, ltb-true}
+use borrow.Author.Tests.{eqb-true, leb-true}
 use Rattle.nodes.specs.Standard.{Standard}
 use Rattle.nodes.specs.Clear.{clearOf}
 use Rattle.nodes.proofs.BoolLaws.{split, and-both}
@@ -379,7 +379,7 @@ module _ (k : ℕ) (small : k < 2 ^ 64) (s : State) (h : Held) (H : Holds (bitAt
       enter-follows =
           split (eqb (x .answer .keep) 1) (λ t. rw t (kept-follows (eqb-true _ _ t)))
           (λ t. split (row8 r (s .words) (s .list))
-          (λ u. rw (t, u) (nine-follows σ s h H (access (assert b a d)) standard y _ (entered-follows (ltb-true _ _ u))))
+          (λ u. rw (t, u) (nine-follows σ s h H (access (assert b a d)) standard y _ (entered-follows (omega (arith, leb-true (r .entries + 1) (listCapacity r (s .list)) u)))))
           (λ u. rw (t, u) (cleared-follows σ s h H (access (assert b a d)) standard 8)))
 
     assert-follows : Follows σ s h (access (assert b a d)) (closed s (finish (access (assert b a d)) s))

@@ -7,7 +7,7 @@ use Rattle.conditions.specs.Build.{Outcome, Build, pure, next, _>>=_, forEach}
 use Rattle.conditions.specs.Make.{Variable}
 use Rattle.conditions.specs.Ite.{Ite, Not, And, Or}
 use Rattle.conditions.specs.Any.{Any}
-use Rattle.model.specs.Record.{Record, hAt, lAt, entryAt, addressOf, dataOf}
+use Rattle.model.specs.Record.{Record, hAt, lAt, cellWords, dataWords, entryAt, addressOf, dataOf}
 
 -- "u = 1, then for each bit u = And(u, Not And(a.h,a.l))"
 unfoldable pub uniqueBit : ℕ → ℕ → ℕ → Build ℕ
@@ -74,7 +74,7 @@ entryStep r inside entry word = do
   m ← Narrow (r .n) (addressOf r entry) inside
   hm ← And m (getD entry 0 0)
   sm ← And m (getD entry 1 0)
-  EachHalf (λ k. mergeHalf hm sm (getD (dataOf r entry) k 0)) (2 * r .w) word
+  EachHalf (λ k. mergeHalf hm sm (getD (dataOf r entry) k 0)) (cellWords r) word
 
 -- "Then each half becomes Any(And(in, r))."
 unfoldable pub settleHalf : ℕ → ℕ → Build ℕ
@@ -86,8 +86,8 @@ settleHalf inside r = do
 unfoldable pub Look : Record → List ℕ → List ℕ → Build (List ℕ)
 Look r l a = do
   inside ← Narrow (r .n) a 1
-  word ← forEach (λ j. entryStep r inside (entryAt r l j)) 0 (r .entries) (replicate (2 * r .w) 1)
-  EachHalf (λ k. settleHalf inside) (2 * r .w) word
+  word ← forEach (λ j. entryStep r inside (entryAt r l j)) 0 (r .entries) (replicate (cellWords r) 1)
+  EachHalf (λ k. settleHalf inside) (cellWords r) word
 
 -- "Read(e,a): Look(a), then E = And(e.h, Not e.l), then each half Ite(E, r, 1)"
 abbrev pub maskHalf : ℕ → ℕ → Build ℕ
@@ -97,7 +97,7 @@ unfoldable pub Read : Record → List ℕ → ℕ → ℕ → List ℕ → Build
 Read r l eh el a = do
   looked ← Look r l a
   e ← Certain eh el
-  EachHalf (λ k. maskHalf e) (2 * r .w) looked
+  EachHalf (λ k. maskHalf e) (dataWords r) looked
 
 -- "C = 1, and for each bit C = And(C, Or(Not r.h, d.h)), then with l": for each half of x and y
 unfoldable pub insideHalf : ℕ → ℕ → ℕ → Build ℕ
@@ -113,7 +113,7 @@ Inside k x y = forEach (λ j. insideHalf (getD x j 0) (getD y j 0)) 0 k 1
 unfoldable pub Check : Record → List ℕ → ℕ → List ℕ → List ℕ → Build ℕ
 Check r l b a d = do
   word ← Look r l a
-  c ← Inside (2 * r .w) word d
+  c ← Inside (cellWords r) word d
   x ← Not b
   y ← Or x c
   And (r .checked) y
@@ -128,11 +128,11 @@ pub record Asserted : Type 0 where
 unfoldable pub Assert : Record → List ℕ → ℕ → List ℕ → List ℕ → Build Asserted
 Assert r l b a d = do
   word ← Look r l a
-  below ← Inside (2 * r .w) d word
+  below ← Inside (cellWords r) d word
   v ← Not b
   y ← Or v below
   condition ← And (r .asserted) y
-  above ← Inside (2 * r .w) word d
+  above ← Inside (cellWords r) word d
   z ← And below above
   k ← Or v z
   pure (record { condition = condition; unless = v; keep = k })

@@ -37,18 +37,28 @@ lAt ws i = getD ws (2 * i + 1) 0
 abbrev pub part : List ℕ → ℕ → ℕ → List ℕ
 part l a e = take (e - a) (drop a l)
 
+-- the words of an address, of a cell's data in an entry or beside a look, and of the data or answer of a write or a read
+abbrev pub addressWords : Record → ℕ
+addressWords r = 2 * r .n
+
+abbrev pub cellWords : Record → ℕ
+cellWords r = 2 * r .w
+
+abbrev pub dataWords : Record → ℕ
+dataWords r = 2 * r .w
+
 -- "An entry is 2+2n+2w words: h, s, address, data."
 abbrev pub size : Record → ℕ
-size r = 2 + 2 * r .n + 2 * r .w
+size r = 2 + addressWords r + cellWords r
 
 abbrev pub entryAt : Record → List ℕ → ℕ → List ℕ
 entryAt r l j = part l (j * size r) (j * size r + size r)
 
 abbrev pub addressOf : Record → List ℕ → List ℕ
-addressOf r e = part e 2 (2 + 2 * r .n)
+addressOf r e = part e 2 (2 + addressWords r)
 
 abbrev pub dataOf : Record → List ℕ → List ℕ
-dataOf r e = part e (2 + 2 * r .n) (size r)
+dataOf r e = part e (2 + addressWords r) (size r)
 
 -- "List capacity is whole entries, at most 4,096."
 unfoldable pub listCapacity : Record → List ℕ → ℕ

@@ -1,14 +1,14 @@
 -- 01, 'Turned down': rows 1 to 7 of the table, and 8 in a write. The first test that fails refuses, by its number; 0 is none.
 use mathlib.Core.Bool.{Bool, true, false, cond, not, _&&_}
 use mathlib.Core.List.{List, [], _∷_}
-use Prim.Native.Nat.{ℕ, _*_}
+use Prim.Native.Nat.{ℕ, _+_, _*_}
 use lib.Dec.{eqb, ltb, leb}
 use lib.ListN.{length, getD}
 use Rattle.nodes.specs.Search.{every}
 use Rattle.nodes.specs.Standard.{isStandard}
 use Rattle.conditions.specs.User.{isUser}
 use Rattle.conditions.specs.Meet.{neither, together}
-use Rattle.model.specs.Record.{Record, hAt, lAt, size, listCapacity}
+use Rattle.model.specs.Record.{Record, hAt, lAt, addressWords, cellWords, dataWords, size, listCapacity}
 
 -- a row's number, and its test
 abbrev pub Row : Type 0
@@ -43,9 +43,12 @@ module _ (r : Record) (w : List ℕ) where
       leb (r .entries) (listCapacity r l) && every (λ i. isUser w (r .count) (getD l i 0)) 0 (r .entries * size r)
       && isUser w (r .count) (r .asserted) && isUser w (r .count) (r .checked)
 
-  -- "no space for the entry"
+  -- space for k entries more; row 8: "no space for the entry"
+  abbrev pub spaceFor : ℕ → List ℕ → Bool
+  spaceFor k l = leb (r .entries + k) (listCapacity r l)
+
   abbrev pub row8 : List ℕ → Bool
-  row8 l = ltb (r .entries) (listCapacity r l)
+  row8 l = spaceFor 1 l
 
   -- rows 1 to 3 of an access
   abbrev pub memoryRows : List ℕ → List Row → List Row
@@ -56,7 +59,7 @@ module _ (r : Record) (w : List ℕ) where
   abbrev pub writeRows : List ℕ → List ℕ → List ℕ → List ℕ → List Row
   writeRows l c a d =
       memoryRows l
-      ((4, eqb (length c) 2 && eqb (length a) (2 * r .n) && eqb (length d) (2 * r .w))
+      ((4, eqb (length c) 2 && eqb (length a) (addressWords r) && eqb (length d) (dataWords r))
       ∷ (5, users c && users a && users d)
       ∷ (6, legalPairs c 1 && legalPairs a (r .n) && legalPairs d (r .w))
       ∷ (8, row8 l)
@@ -65,7 +68,7 @@ module _ (r : Record) (w : List ℕ) where
   abbrev pub readRows : List ℕ → List ℕ → List ℕ → List ℕ → List Row
   readRows l e a out =
       memoryRows l
-      ((4, eqb (length e) 2 && eqb (length a) (2 * r .n) && eqb (length out) (2 * r .w))
+      ((4, eqb (length e) 2 && eqb (length a) (addressWords r) && eqb (length out) (dataWords r))
       ∷ (5, users e && users a)
       ∷ (6, legalPairs e 1 && legalPairs a (r .n))
       ∷ [])
@@ -73,7 +76,7 @@ module _ (r : Record) (w : List ℕ) where
   abbrev pub checkRows : List ℕ → ℕ → List ℕ → List ℕ → List Row
   checkRows l b a d =
       memoryRows l
-      ((4, eqb (length a) (2 * r .n) && eqb (length d) (2 * r .w))
+      ((4, eqb (length a) (addressWords r) && eqb (length d) (cellWords r))
       ∷ (5, isUser w (r .count) b && users a && users d)
       ∷ (6, legalPairs a (r .n) && legalPairs d (r .w))
       ∷ [])
@@ -81,7 +84,7 @@ module _ (r : Record) (w : List ℕ) where
   abbrev pub assertRows : List ℕ → ℕ → List ℕ → List ℕ → List Row
   assertRows l b a d =
       memoryRows l
-      ((4, eqb (length a) (2 * r .n) && eqb (length d) (2 * r .w))
+      ((4, eqb (length a) (addressWords r) && eqb (length d) (cellWords r))
       ∷ (5, isUser w (r .count) b && users a && users d)
       ∷ (6, legalPairs a (r .n) && legalPairs d (r .w))
       ∷ (7, every (λ i. not (together w b (hAt a i) (lAt a i))) 0 (r .n))
