@@ -17,7 +17,7 @@ use Rattle.conditions.specs.declared.Store.{Store}
 use Rattle.conditions.specs.Build.{Outcome, Build, pure, next, forEach}
 use Rattle.conditions.specs.Value.{value}
 use Rattle.conditions.specs.Meaning.{Meaning, Stands, Builds}
-use Rattle.conditions.proofs.ValueLaws.{value-0, value-1, value-agree}
+use Rattle.diagrams.proofs.ValueLaws.{value-0, value-1, value-agree}
 
 -- a step that builds nothing
 pub pure-builds : {A : Type 0} {w : List ℕ} {s : Store} {P : List ℕ → Store → A → Type 0} {a : A} → Standard w (s .count) → P w s a → Builds w s P (pure a w s)

@@ -16,8 +16,8 @@ pub use Rattle.conditions.proofs.BuildLaws.{stands-value, stands-same, 
 pub use Rattle.conditions.proofs.IteLaws.{ite-builds, not-builds, and-builds, or-builds}
 pub use Rattle.conditions.proofs.MakeLaws.{variable-builds}
 pub use Rattle.conditions.proofs.AnyLaws.{any-builds, some-same}
-pub use Rattle.conditions.proofs.AssignmentLaws.{change-same, change-other, some-has, some-all}
-pub use Rattle.conditions.proofs.ValueLaws.{value-0, value-1}
+pub use Rattle.diagrams.proofs.AssignmentLaws.{change-same, change-other, some-has, some-all}
+pub use Rattle.diagrams.proofs.ValueLaws.{value-0, value-1}
 -- a store becomes full at its capacity alone
 pub use Rattle.conditions.proofs.FullLaws.{standard-within, pure-fills, next-fills, each-fills, variable-fills, ite-fills, any-fills}
 -- row 5
@@ -25,6 +25,6 @@ pub use Rattle.conditions.proofs.UserLaws.{user-is, is-user, user-stand
 -- the table to begin with
 pub use Rattle.conditions.proofs.ContractLaws.{zeros-sound}
 -- rows 6 and 7
-pub use Rattle.conditions.proofs.MeetLaws.{neither-decides, together-decides}
+pub use Rattle.meets.proofs.MeetLaws.{neither-decides, together-decides}
 -- canonicity: the text of a condition, and one node for one meaning
-pub use Rattle.conditions.proofs.TextClaims.{text-exactly, node-same-text, one-node}
+pub use Rattle.show.proofs.TextClaims.{same-text, text-same, text-exactly, node-same-text, one-node}

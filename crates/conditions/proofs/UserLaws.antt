@@ -12,8 +12,8 @@ use Rattle.conditions.specs.declared.Store.{Store}
 use Rattle.conditions.specs.Value.{value}
 use Rattle.conditions.specs.Meaning.{Meaning, Stands}
 use Rattle.conditions.specs.User.{isUser}
-use Rattle.conditions.proofs.ValueLaws.{value-1}
-use Rattle.conditions.proofs.CanonLaws.{node-same, value-from}
+use Rattle.diagrams.proofs.ValueLaws.{value-1}
+use Rattle.diagrams.proofs.CanonLaws.{node-same, value-from}
 use Rattle.conditions.proofs.BuildLaws.{stands-value}
 
 -- what row 5 finds
