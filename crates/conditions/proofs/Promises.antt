@@ -1,10 +1,13 @@
--- What the conditions promise to the crates above, which cite these laws and no others. The terms are those of `Meaning`:
+-- What the conditions promise to the crates above, which cite these laws and no others. The terms are those of `Stores` and `Meaning`:
+-- `From u w n`: node n is on a variable from u up;
 -- `Stands u m w s n`: node n is below the count, on a variable from u up, and stands for m unless the store is full;
 -- `Builds w s P x`: the step from w and s to x leaves standard form, extends the store, leaves a full store as it is, and P holds of its answer;
 -- `Fills m`: the program m leaves a store within its capacity, and makes it full there alone.
 
 -- the store grows: older nodes stay
 pub use Rattle.nodes.proofs.ExtendsLaws.{extends-refl, extends-trans, agree-var}
+-- the variables that a node is on
+pub use Rattle.conditions.proofs.BuildLaws.{from-less, from-stays, from-0, from-1}
 -- standard form as a test and as facts, each the other; the two terminals alone; clearing
 pub use Rattle.nodes.proofs.StandardLaws.{standard-is, is-standard}
 pub use Rattle.nodes.proofs.GrowthLaws.{terminals-standard, clear-standard}

@@ -12,6 +12,10 @@ ghost use Rattle.conditions.specs.User.{isUser};
 pub use diagrams::evaluate;
 pub use meets::neither;
 pub use meets::together;
+pub use nodes::capacity;
+pub use nodes::clear;
+pub use nodes::is_standard;
+pub use nodes::store_terminals;
 pub use show::put_condition;
 
 // How many nodes there are, and whether a node was needed past the capacity. Once full, nothing is built any more.
