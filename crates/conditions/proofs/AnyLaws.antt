@@ -20,9 +20,9 @@ use Rattle.conditions.specs.Any.{stopOf, anyBy, anyUpTo, Any}
 use Rattle.conditions.specs.Value.{value}
 use Rattle.conditions.specs.Assignment.{change, some}
 use Rattle.conditions.specs.Meaning.{Meaning, Stands, Builds}
-use Rattle.conditions.proofs.ValueLaws.{value-step}
-use Rattle.conditions.proofs.AssignmentLaws.{change-same, change-other, some-has, some-all}
-use Rattle.conditions.proofs.CanonLaws.{value-from, value-change}
+use Rattle.diagrams.proofs.ValueLaws.{value-step}
+use Rattle.diagrams.proofs.AssignmentLaws.{change-same, change-other, some-has, some-all}
+use Rattle.diagrams.proofs.CanonLaws.{value-from, value-change}
 use Rattle.conditions.proofs.BuildLaws.{pure-builds, next-builds, keep, builds-same, stands-same, stands-value, stands-full}
 use Rattle.conditions.proofs.IteLaws.{or-builds}
 

@@ -5,7 +5,6 @@ use mathlib.Core.List.{List}
 use Prim.Native.Nat.{ℕ, zero, suc, _+_, _-_, _<_, _≤_}
 use native.Mathlib.Omega.{arith}
 use native.Mathlib.Numerals.{add-one}
-use Rattle.nodes.specs.Words.{varAt}
 use Rattle.nodes.specs.Standard.{Standard}
 use Rattle.nodes.specs.Extends.{Agree, Extends}
 use Rattle.nodes.specs.Clear.{clearOf}
@@ -16,8 +15,21 @@ use Rattle.nodes.proofs.GrowthLaws.{var-most}
 use Rattle.conditions.specs.declared.Store.{Store}
 use Rattle.conditions.specs.Build.{Outcome, Build, pure, next, forEach}
 use Rattle.conditions.specs.Value.{value}
-use Rattle.conditions.specs.Meaning.{Meaning, Stands, Builds}
-use Rattle.conditions.proofs.ValueLaws.{value-0, value-1, value-agree}
+use Rattle.conditions.specs.Meaning.{Meaning, From, Stands, Builds}
+use Rattle.diagrams.proofs.ValueLaws.{value-0, value-1, value-agree}
+
+-- a node is on a variable from any lesser one up, stays so where older nodes stay, and a terminal is on none
+pub from-less : (w : List ℕ) (n : ℕ) {u u′ : ℕ} → u′ ≤ u → From u w n → From u′ w n
+from-less w n h f = omega arith
+
+pub from-stays : {w w′ : List ℕ} {c u : ℕ} → Agree w w′ c → (n : ℕ) → n < c → From u w n → From u w′ n
+from-stays e n h f = rw (agree-var e n h) f
+
+pub from-0 : {w : List ℕ} {c : ℕ} (u : ℕ) → Standard w c → u ≤ 64 → From u w 0
+from-0 u g l = omega (arith, g .var0)
+
+pub from-1 : {w : List ℕ} {c : ℕ} (u : ℕ) → Standard w c → u ≤ 64 → From u w 1
+from-1 u g l = omega (arith, g .var1)
 
 -- a step that builds nothing
 pub pure-builds : {A : Type 0} {w : List ℕ} {s : Store} {P : List ℕ → Store → A → Type 0} {a : A} → Standard w (s .count) → P w s a → Builds w s P (pure a w s)
@@ -33,7 +45,7 @@ module _ {A : Type 0} {w : List ℕ} {s : Store} {P : List ℕ → Store → A �
   keep {n = n} g N =
       record {
         below = omega (arith, N .below, X .extends .more);
-        from = rw (agree-var (X .extends .old) n (N .below)) (N .from);
+        from = from-stays (X .extends .old) n (N .below) (N .from);
         is = λ e φ. value-agree g (X .extends .old) φ n (N .below) ∙ N .is (was-free e) φ;
       }
 
@@ -63,7 +75,7 @@ module _ {A : Type 0} {w : List ℕ} {s : Store} {P : List ℕ → Store → A �
 pub clear-keep : {w : List ℕ} {s : Store} {u n : ℕ} {m : Meaning} → Standard w (s .count) → Stands u m w s n → Stands u m (clearOf w (s .count)) s n
 clear-keep {w} {s} {n = n} g N =
     let e : Agree w (clearOf w (s .count)) (s .count) = record { at = clear-below w (s .count) } in
-    record { below = N .below; from = rw (agree-var e n (N .below)) (N .from); is = λ f φ. value-agree g e φ n (N .below) ∙ N .is f φ }
+    record { below = N .below; from = from-stays e n (N .below) (N .from); is = λ f φ. value-agree g e φ n (N .below) ∙ N .is f φ }
 
 -- the same meaning, said otherwise
 pub stands-same : {w : List ℕ} {s : Store} {u n : ℕ} {m m′ : Meaning} → Stands u m w s n → (s .full ≡ false → (φ : ℕ → Bool) → m φ ≡ m′ φ) → Stands u m′ w s n
@@ -72,20 +84,20 @@ stands-same N e = record { below = N .below; from = N .from; is = λ f φ. N .is
 pub builds-same : {w : List ℕ} {s : Store} {u : ℕ} {m m′ : Meaning} {x : Outcome ℕ} → Builds w s (Stands u m) x → (s .full ≡ false → (φ : ℕ → Bool) → m φ ≡ m′ φ) → Builds w s (Stands u m′) x
 builds-same X e = builds-weaker X (λ N. stands-same N (λ f φ. e (was-free X f) φ))
 
--- a node is on a variable from any lesser one up
+-- a node stands as well on a variable from any lesser one up
 pub stands-from : {w : List ℕ} {s : Store} {u u′ n : ℕ} {m : Meaning} → u′ ≤ u → Stands u m w s n → Stands u′ m w s n
-stands-from h N = record { below = N .below; from = omega (arith, N .from); is = N .is }
+stands-from {w} {n = n} h N = record { below = N .below; from = from-less w n h (N .from); is = N .is }
 
 -- each node stands for its value
-pub stands-value : (w : List ℕ) (s : Store) (u n : ℕ) → n < s .count → u ≤ varAt w n → Stands u (λ φ. value w φ n) w s n
+pub stands-value : (w : List ℕ) (s : Store) (u n : ℕ) → n < s .count → From u w n → Stands u (λ φ. value w φ n) w s n
 stands-value w s u n h l = record { below = h; from = l; is = λ e φ. refl }
 
 module _ {w : List ℕ} {s : Store} (u : ℕ) (g : Standard w (s .count)) (l : u ≤ 64) where
   pub stands-0 : Stands u (λ φ. false) w s 0
-  stands-0 = record { below = omega (arith, g .two); from = omega (arith, g .var0); is = λ e φ. value-0 w φ }
+  stands-0 = record { below = omega (arith, g .two); from = from-0 u g l; is = λ e φ. value-0 w φ }
 
   pub stands-1 : Stands u (λ φ. true) w s 1
-  stands-1 = record { below = omega (arith, g .two); from = omega (arith, g .var1); is = λ e φ. value-1 w φ }
+  stands-1 = record { below = omega (arith, g .two); from = from-1 u g l; is = λ e φ. value-1 w φ }
 
   -- in a full store node 0 stands for anything
   pub stands-full : {m : Meaning} → s .full ≡ true → Stands u m w s 0

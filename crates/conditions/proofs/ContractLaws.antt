@@ -11,7 +11,7 @@ use Rattle.conditions.specs.Build.{Outcome, Build, next, outcome}
 use Rattle.conditions.specs.Meaning.{Meaning, Stands, Builds}
 use Rattle.conditions.specs.Table.{Remembers}
 use Rattle.conditions.specs.Contract.{Sound, Did}
-use Rattle.conditions.proofs.PartsLaws.{Ready}
+use Rattle.diagrams.proofs.PartsLaws.{Ready}
 use Rattle.conditions.proofs.TableLaws.{remembers-zeros}
 
 pub sound-ready : {w t : List ℕ} {s : Store} {f g h : ℕ} → Sound w t s → f < s .count → g < s .count → h < s .count → Ready w (s .count) f g h

@@ -1,9 +1,6 @@
-pub mod ValueLaws
-pub mod CanonLaws
-pub mod AssignmentLaws
 pub mod BuildLaws
 pub mod MakeLaws
-pub mod PartsLaws
+pub mod RuleLaws
 pub mod IteLaws
 pub mod AgainLaws
 pub mod TableLaws
@@ -12,7 +9,3 @@ pub mod AnyLaws
 pub mod FullLaws
 pub mod UserLaws
 pub mod Promises
-pub mod ShowLaws
-pub mod TextClaims
-pub mod ShowExamples
-pub mod MeetLaws

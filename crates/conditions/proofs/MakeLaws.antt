@@ -20,7 +20,7 @@ use Rattle.conditions.specs.Build.{Outcome, pure}
 use Rattle.conditions.specs.Make.{added, overflow, Make, Variable}
 use Rattle.conditions.specs.Value.{value}
 use Rattle.conditions.specs.Meaning.{Meaning, Stands, Builds}
-use Rattle.conditions.proofs.ValueLaws.{value-step, value-agree}
+use Rattle.diagrams.proofs.ValueLaws.{value-step, value-agree}
 use Rattle.conditions.proofs.BuildLaws.{pure-builds, builds-same, stands-0, stands-1, stands-full}
 
 -- the cases

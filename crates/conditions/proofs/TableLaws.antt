@@ -2,26 +2,28 @@
 use mathlib.Core.Path.{_≡_, refl, sym, ap, _∙_}
 use mathlib.Core.Bool.{Bool, true, false, cond}
 use mathlib.Core.Logic.{_⊎_, inl, inr}
-use mathlib.Core.List.{List, [], _∷_}
+use mathlib.Core.List.{List}
 use Prim.Native.Nat.{ℕ, zero, suc, _+_, _*_, _/_, _%_, _<_, _≤_}
 use native.Mathlib.Omega.{arith}
 use lib.Dec.{eqb}
-use lib.ListN.{getD, set, replicate}
+use lib.ListN.{getD, replicate}
 use borrow.Author.Tests.{eqb-true}
 use Rattle.nodes.specs.Standard.{Standard}
 use Rattle.nodes.proofs.BoolLaws.{split}
 use Rattle.nodes.proofs.ExtendsLaws.{extends-refl}
 use Rattle.conditions.specs.declared.Store.{Store}
-use Rattle.conditions.specs.declared.Parts.{Parts}
+use Rattle.diagrams.specs.declared.Parts.{Parts}
 use Rattle.conditions.specs.declared.Plain.{Plain}
 use Rattle.conditions.specs.declared.Plain.the-variants.{Done, Split}
 use Rattle.conditions.specs.Build.{Outcome, pure}
 use Rattle.conditions.specs.Make.{Make}
 use Rattle.conditions.specs.Ite.{plainOf, partsOf, Ite}
 use Rattle.conditions.specs.Meaning.{Builds}
-use Rattle.conditions.specs.Table.{keyOf, slotOf, recallOf, orRecall, knownOf, rememberOf, Known, Remembers}
+use Rattle.diagrams.specs.Keys.{keyOf, slotOf}
+use Rattle.conditions.specs.Table.{recallOf, orRecall, knownOf, rememberOf, Known, Remembers}
 use Rattle.conditions.proofs.BuildLaws.{was-free}
-use Rattle.conditions.proofs.PartsLaws.{Ready}
+use Rattle.diagrams.proofs.PartsLaws.{Ready}
+use Rattle.diagrams.proofs.KeyLaws.{set-or}
 use Rattle.conditions.proofs.IteLaws.{ready-builds, ite-bounds, ite-done, splits, split-make, split-all}
 use Rattle.conditions.proofs.AgainLaws.{Later, ite-again}
 
@@ -56,14 +58,6 @@ ite-known w s f g h {x} r ex e =
       is = ite-again w s f g h r (rw (← ex) e) (x .words) (x .store) (rw (← ex) (record { standard = rw ex (X .standard); extends = extends-refl (x .words) (x .store .count); free = e }))
           ∙ ap (λ (o : Outcome ℕ). pure (o .answer) (x .words) (x .store)) (sym ex);
     }
-
--- a number after a store to one place
-pub set-or : (l : List ℕ) (i j v : ℕ) → (getD (set l i v) j 0 ≡ v) ⊎ (getD (set l i v) j 0 ≡ getD l j 0)
-set-or [] i j v = inr refl
-set-or (x ∷ l) zero zero v = inl refl
-set-or (x ∷ l) zero (suc j) v = inr refl
-set-or (x ∷ l) (suc i) zero v = inr refl
-set-or (x ∷ l) (suc i) (suc j) v = set-or l i j v
 
 -- three nodes and an answer, read out of their number
 module _ (f g h r : ℕ) (lf : f < 16384) (lg : g < 16384) (lh : h < 16384) (lr : r < 16384) where

@@ -10,18 +10,18 @@ use Rattle.nodes.specs.Standard.{Standard}
 use Rattle.nodes.proofs.BoolLaws.{cond-both}
 use Rattle.conditions.specs.declared.Store.{Store}
 use Rattle.conditions.specs.Value.{value}
-use Rattle.conditions.specs.Meaning.{Meaning, Stands}
+use Rattle.conditions.specs.Meaning.{Meaning, From, Stands}
 use Rattle.conditions.specs.User.{isUser}
-use Rattle.conditions.proofs.ValueLaws.{value-1}
-use Rattle.conditions.proofs.CanonLaws.{node-same, value-from}
+use Rattle.diagrams.proofs.ValueLaws.{value-1}
+use Rattle.diagrams.proofs.CanonLaws.{node-same, value-from}
 use Rattle.conditions.proofs.BuildLaws.{stands-value}
 
 -- what row 5 finds
-pub user-is : (w : List ℕ) (c n : ℕ) → isUser w c n ≡ true → (n < c) × (8 ≤ varAt w n)
+pub user-is : (w : List ℕ) (c n : ℕ) → isUser w c n ≡ true → (n < c) × From 8 w n
 unfolding isUser
 user-is w c n e = let p = cond-both _ _ e in (ltb-true n c (p .0), leb-true 8 (varAt w n) (p .1))
 
-pub is-user : (w : List ℕ) (c n : ℕ) → n < c → 8 ≤ varAt w n → isUser w c n ≡ true
+pub is-user : (w : List ℕ) (c n : ℕ) → n < c → From 8 w n → isUser w c n ≡ true
 unfolding isUser
 is-user w c n a b = rw (lt-ltb n c a, le-leb 8 (varAt w n) b)
 

@@ -1,15 +1,16 @@
 -- 01, 'Conditions': Ite, and Not, And, Or by it.
-use mathlib.Core.Bool.{Bool, true, false, cond}
-use mathlib.Core.List.{List}
-use Prim.Native.Nat.{ℕ, zero, suc, _+_, min}
+use mathlib.Core.Bool.{Bool, cond}
+use Prim.Native.Nat.{ℕ, zero, suc, _+_}
 use lib.Dec.{eqb}
-use Rattle.nodes.specs.Words.{varAt, childAt}
+use Rattle.diagrams.specs.declared.Parts.{Parts}
 use Rattle.conditions.specs.declared.Store.{Store}
-use Rattle.conditions.specs.declared.Parts.{Parts}
 use Rattle.conditions.specs.declared.Plain.{Plain}
 use Rattle.conditions.specs.declared.Plain.the-variants.{Done, Split}
 use Rattle.conditions.specs.Build.{Outcome, Build, pure, next, _>>=_}
 use Rattle.conditions.specs.Make.{Make}
+-- "v is the least top variable of the three", and the parts of the three at it
+pub use Rattle.diagrams.specs.Parts.{leastOf, partsOf}
+unfoldable pub use Rattle.diagrams.specs.Parts.{partOf}
 
 -- "Ite(f,g,h), first rule that fits: f is 1: g; f is 0: h; g=h: g; g=1 and h=0: f; else" by the parts. A full store answers 0.
 unfoldable pub plainOf : Bool → ℕ → ℕ → ℕ → Plain
@@ -20,26 +21,6 @@ plainOf full f g h =
     (cond (eqb g h) (Done g)
     (cond (eqb g 1) (cond (eqb h 0) (Done f) Split)
     Split))))
-
--- "v is the least top variable of the three"
-abbrev pub leastOf : List ℕ → ℕ → ℕ → ℕ → ℕ
-leastOf w f g h = min (varAt w f) (min (varAt w g) (varAt w h))
-
--- the low part of a node at v, or the high part: "a node on another variable stands for both its parts"
-unfoldable pub partOf : Bool → List ℕ → ℕ → ℕ → ℕ
-partOf b w v n = cond (eqb (varAt w n) v) (childAt b w n) n
-
-abbrev pub partsOf : List ℕ → ℕ → ℕ → ℕ → Parts
-partsOf w f g h =
-    record {
-      v = leastOf w f g h;
-      f0 = partOf false w (leastOf w f g h) f;
-      g0 = partOf false w (leastOf w f g h) g;
-      h0 = partOf false w (leastOf w f g h) h;
-      f1 = partOf true w (leastOf w f g h) f;
-      g1 = partOf true w (leastOf w f g h) g;
-      h1 = partOf true w (leastOf w f g h) h;
-    }
 
 -- "Ite of their low parts, then Ite of their high parts, then Make of v and the two", by a function for the parts
 abbrev pub byParts : (ℕ → ℕ → ℕ → Build ℕ) → Parts → Build ℕ

@@ -10,3 +10,5 @@ pub mod Contract
 pub mod User
 pub mod Show
 pub mod Meet
+pub mod Stores
+pub mod Computing

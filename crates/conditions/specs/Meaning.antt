@@ -14,10 +14,14 @@ use Rattle.conditions.specs.Value.{value}
 abbrev pub Meaning : Type 0
 Meaning = (ℕ → Bool) → Bool
 
+-- node n is on a variable from u up: its value turns on no variable below
+abbrev pub From : ℕ → List ℕ → ℕ → Type 0
+From u w n = u ≤ varAt w n
+
 -- node n stands for m, and is on a variable from u up; where the store is full it need not
 pub record Stands (u : ℕ) (m : Meaning) (w : List ℕ) (s : Store) (n : ℕ) : Type 0 where
   pub below : n < s .count
-  pub from : u ≤ varAt w n
+  pub from : From u w n
   pub is : s .full ≡ false → (φ : ℕ → Bool) → value w φ n ≡ m φ
 
 -- a step from w and s to x: standard form again, growth, a full store left as it is, and P of the answer

@@ -5,21 +5,14 @@ use mathlib.Core.List.{List}
 use Prim.Native.Nat.{ℕ, _+_, _*_, _/_, _%_, _<_}
 use lib.Dec.{eqb}
 use lib.ListN.{getD, set}
+use Rattle.diagrams.specs.Keys.{keyOf, slotOf}
 use Rattle.conditions.specs.declared.Store.{Store}
 use Rattle.conditions.specs.declared.Plain.{Plain}
 use Rattle.conditions.specs.declared.Plain.the-variants.{Done, Split}
 use Rattle.conditions.specs.Build.{pure}
 use Rattle.conditions.specs.Ite.{plainOf, Ite}
 
--- three nodes in one number, 14 bits each
-abbrev pub keyOf : ℕ → ℕ → ℕ → ℕ
-keyOf f g h = (f * 16384 + g) * 16384 + h
-
--- their place in a table
-abbrev pub slotOf : ℕ → ℕ → ℕ → ℕ
-slotOf f g h = (f * 12582917 + g * 4256249 + h * 741457) % 32768
-
--- what stands at that place, if it is theirs
+-- what stands at the place of three nodes, if it is theirs
 unfoldable pub recallOf : List ℕ → ℕ → ℕ → ℕ → Plain
 recallOf t f g h = cond (eqb (getD t (slotOf f g h) 0 / 16384) (keyOf f g h)) (Done (getD t (slotOf f g h) 0 % 16384)) Split
 

@@ -10,7 +10,7 @@ use lib.ListN.{length, getD}
 use Rattle.text.proofs.DecimalLaws.{decimal-then}
 use Rattle.conditions.specs.Value.{Tree, leaf, branch, treeOf}
 use Rattle.conditions.specs.Show.{show, textOf, Alike}
-use Rattle.conditions.proofs.TextClaims.{same-text, text-same}
+use Rattle.conditions.proofs.Promises.{same-text, text-same}
 use Rattle.lines.specs.Lines.{bitText, bitsText, readWord, readLine, assertWord, assertLine, checkWord, checkLine}
 use Rattle.lines.specs.Claims.{Printed, PrintedWord, CheckLines, AssertLines, ReadLines}
 

@@ -9,7 +9,7 @@ use borrow.Fn.PlainCycle.{Measures, is, falls, and}
 use Rattle.conditions.proofs.ite.Reads as ite
 use Rattle.conditions.proofs.ite.Kinds as ite-kinds
 use Rattle.conditions.proofs.+ite.Lts-ite as ite-lts
-use Rattle.conditions.proofs.divide.Reads as divide-reads
+use Rattle.diagrams.proofs.divide.Reads as divide-reads
 use Rattle.conditions.proofs.known.Reads as known-reads
 use Rattle.conditions.proofs.make_near.Reads as make-near-reads
 use Rattle.conditions.proofs.remember.Reads as remember-reads

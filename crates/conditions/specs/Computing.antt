@@ -1,0 +1,18 @@
+-- The definitions by which an example of building or of a row is computed.
+use Rattle.nodes.specs.Words.{hasWords}
+use Rattle.nodes.specs.Search.{seek, every}
+use Rattle.nodes.specs.Standard.{counted, terminals, childFits, shaped, lowest, first, isStandard}
+use Rattle.diagrams.specs.Parts.{partOf}
+use Rattle.meets.specs.Meet.{judgeOf, meetsBy, meetsUpTo, meets, neither, together}
+use Rattle.conditions.specs.Build.{next, forEach}
+use Rattle.conditions.specs.Make.{Make}
+use Rattle.conditions.specs.Ite.{plainOf, iteBy, iteUpTo, Ite}
+use Rattle.conditions.specs.Any.{stopOf, anyBy, anyUpTo, Any}
+use Rattle.conditions.specs.User.{isUser}
+
+-- who unfolds this unfolds them all
+unfoldable pub computing : Unit {0}
+unfolding
+    hasWords seek every counted terminals childFits shaped lowest first isStandard
+    next forEach Make plainOf partOf iteBy iteUpTo Ite stopOf anyBy anyUpTo Any isUser judgeOf meetsBy meetsUpTo meets neither together
+computing = tt

@@ -1,0 +1,5 @@
+pub mod ValueLaws
+pub mod CanonLaws
+pub mod AssignmentLaws
+pub mod PartsLaws
+pub mod KeyLaws

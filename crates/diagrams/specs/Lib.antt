@@ -1,0 +1,4 @@
+pub mod Value
+pub mod Assignment
+pub mod Parts
+pub mod Keys
