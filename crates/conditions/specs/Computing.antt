@@ -2,6 +2,7 @@
 use Rattle.nodes.specs.Words.{hasWords}
 use Rattle.nodes.specs.Search.{seek, every}
 use Rattle.nodes.specs.Standard.{counted, terminals, childFits, shaped, lowest, first, isStandard}
+use Rattle.nodes.specs.Clear.{zeroed, clearOf}
 use Rattle.diagrams.specs.Parts.{partOf}
 use Rattle.meets.specs.Meet.{judgeOf, meetsBy, meetsUpTo, meets, neither, together}
 use Rattle.conditions.specs.Build.{next, forEach}
@@ -13,6 +14,6 @@ use Rattle.conditions.specs.User.{isUser}
 -- who unfolds this unfolds them all
 unfoldable pub computing : Unit {0}
 unfolding
-    hasWords seek every counted terminals childFits shaped lowest first isStandard
+    hasWords seek every counted terminals childFits shaped lowest first isStandard zeroed clearOf
     next forEach Make plainOf partOf iteBy iteUpTo Ite stopOf anyBy anyUpTo Any isUser judgeOf meetsBy meetsUpTo meets neither together
 computing = tt

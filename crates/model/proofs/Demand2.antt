@@ -7,8 +7,8 @@ use Prim.Native.Nat.{ℕ, zero, suc, _^_, _<_}
 use native.Mathlib.Omega.{arith}
 use lib.Dec.{T, eqb}
 use borrow.Author.Tests.{eqb-false}
-use Rattle.nodes.specs.Standard.{Standard}
 use Rattle.nodes.proofs.BoolLaws.{split, iff-same}
+use Rattle.conditions.specs.Stores.{Standard}
 use Rattle.conditions.specs.declared.Store.{Store}
 use Rattle.conditions.specs.Build.{Outcome}
 use Rattle.conditions.specs.Make.{Variable}

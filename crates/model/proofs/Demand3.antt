@@ -7,10 +7,10 @@ use Prim.Native.Nat.{ℕ, zero, suc, _^_, _<_}
 use native.Mathlib.Omega.{arith}
 use lib.Dec.{T}
 use lib.ListN.{length}
-use Rattle.nodes.specs.Standard.{Standard}
+use Rattle.conditions.specs.Stores.{Standard}
 use Rattle.conditions.specs.Value.{value}
 use Rattle.conditions.specs.Assignment.{bitAt}
-use Rattle.conditions.proofs.Promises.{terminals-standard, value-1}
+use Rattle.conditions.proofs.Promises.{from-1, terminals-standard, value-1}
 use Rattle.model.specs.Pairs.{Pair, admit}
 use Rattle.model.specs.Record.{Record}
 use Rattle.model.specs.Step.{State, Call, Result, begin, step, run, fresh, freshRows, freshUnless, freshRecord}
@@ -73,7 +73,7 @@ demand3 s B cs a small =
     let t = B .standard .two in
     let H : Holds (bitAt a) s holdsNothing = record {
       entries = record { count = sym (B .entries); at = λ j h. absurd (omega (arith, B .entries)) };
-      checked = record { below = omega (arith, B .checked); from = rw (B .checked) (omega (arith, B .standard .var1)); is = λ f τ k. ap (value (s .words) τ) (B .checked) ∙ value-1 (s .words) τ };
+      checked = record { below = omega (arith, B .checked); from = rw (B .checked) (from-1 8 (B .standard) (omega arith)); is = λ f τ k. ap (value (s .words) τ) (B .checked) ∙ value-1 (s .words) τ };
     } in
     let R = traced a small n w cs s holdsNothing holdsNothing refl refl H (same-itself w holdsNothing) in
     let es = events (bitAt a) s cs in

@@ -10,9 +10,9 @@ use lib.Dec.{eqb, ltb, leb}
 use lib.ListN.{length, getD}
 use borrow.Author.Tests.{lt-ltb, le-leb, eq-eqb, ltb-true, leb-true, eqb-true, not-true}
 use Rattle.nodes.specs.Search.{every}
-use Rattle.nodes.specs.Standard.{Standard, isStandard}
 use Rattle.nodes.proofs.BoolLaws.{split, and-both, both-and}
 use Rattle.nodes.proofs.SearchLaws.{every-is, is-every}
+use Rattle.conditions.specs.Stores.{isStandard, Standard}
 use Rattle.conditions.specs.declared.Store.{Store}
 use Rattle.conditions.specs.Value.{value}
 use Rattle.conditions.specs.Assignment.{bitAt}

@@ -7,17 +7,14 @@ use native.Mathlib.Omega.{arith}
 use lib.Dec.{eqb, leb}
 use lib.ListN.{length, getD}
 use borrow.Author.Tests.{leb-true, not-true}
-use Rattle.nodes.specs.Words.{withTerminals}
-use Rattle.nodes.specs.Standard.{Standard}
-use Rattle.nodes.specs.Extends.{Agree, Extends}
-use Rattle.nodes.specs.Clear.{clearOf}
 use Rattle.nodes.proofs.BoolLaws.{split, and-both}
+use Rattle.conditions.specs.Stores.{Standard, withTerminals, Agree, Extends, clearOf}
 use Rattle.conditions.specs.declared.Store.{Store}
 use Rattle.conditions.specs.Build.{Outcome}
 use Rattle.conditions.specs.Value.{value}
 use Rattle.conditions.specs.User.{isUser}
 use Rattle.conditions.specs.Meaning.{Meaning, Builds}
-use Rattle.conditions.proofs.Promises.{extends-refl, extends-trans, standard-is, is-standard, terminals-standard, clear-standard, clear-below, ite-builds, variable-builds, is-user}
+use Rattle.conditions.proofs.Promises.{from-1, extends-refl, extends-trans, standard-is, is-standard, terminals-standard, clear-standard, clear-below, ite-builds, variable-builds, is-user}
 use Rattle.model.specs.Record.{listCapacity}
 use Rattle.model.specs.Access.{Write, Read, Check}
 use Rattle.model.specs.Rows.{Row, firstRow, users, row1, row8, writeRows, readRows, assertRows, checkRows, evaluateRows, variableRows, iteRows}
@@ -233,7 +230,7 @@ fresh-state-valid : (n w : ℕ) (ws list : List ℕ) → row1 (freshRecord n w) 
 unfolding row1
 fresh-state-valid n w ws list one room =
     let S = terminals-standard ws room in
-    let u = is-user (withTerminals ws) 2 1 (omega arith) (omega (arith, S .var1)) in
+    let u = is-user (withTerminals ws) 2 1 (omega arith) (from-1 8 S (omega arith)) in
     record { one = one; two = is-standard (withTerminals ws) 2 S; three = is-third (freshState n w ws list) (record { fits = omega arith; words = λ k h. absurd (omega arith); asserted = u; checked = u }) }
 
 pub fresh-valid : FreshValid

@@ -7,9 +7,8 @@ use native.Mathlib.Omega.{arith}
 use native.Mathlib.Decide.{decLt}
 use lib.Dec.{T}
 use lib.ListN.{length, getD, take, List·getD-eq-default}
-use Rattle.nodes.specs.Words.{varAt}
-use Rattle.nodes.specs.Standard.{Standard}
 use Rattle.nodes.proofs.BoolLaws.{iff-same}
+use Rattle.conditions.specs.Stores.{Standard}
 use Rattle.conditions.specs.declared.Store.{Store}
 use Rattle.conditions.specs.Build.{Outcome, Build, pure, next}
 use Rattle.conditions.specs.Make.{Variable}
@@ -17,9 +16,9 @@ use Rattle.conditions.specs.Ite.{Ite, Not, And, Or}
 use Rattle.conditions.specs.Any.{Any}
 use Rattle.conditions.specs.Value.{value}
 use Rattle.conditions.specs.Assignment.{some}
-use Rattle.conditions.specs.Meaning.{Meaning, Stands, Builds}
+use Rattle.conditions.specs.Meaning.{Meaning, From, Stands, Builds}
 use Rattle.conditions.specs.User.{isUser}
-use Rattle.conditions.proofs.Promises.{builds-weaker, was-free, keep, stands-value, stands-1, ite-builds, not-builds, and-builds, or-builds, any-builds, variable-builds, some-has, some-all, user-stands, stands-turns, value-1}
+use Rattle.conditions.proofs.Promises.{from-less, from-1, builds-weaker, was-free, keep, stands-value, stands-1, ite-builds, not-builds, and-builds, or-builds, any-builds, variable-builds, some-has, some-all, user-stands, stands-turns, value-1}
 use Rattle.model.specs.Published.{anywhere}
 use Rattle.model.proofs.PairLaws.{either, or-left, or-right, eq→T, T→eq, anywhere-from}
 
@@ -33,7 +32,7 @@ near-self σ = record { user = λ v h. refl }
 -- node n is on a variable from u up and means μ near σ; where the store is full it need not mean it
 pub record Means (σ : ℕ → Bool) (u : ℕ) (μ : Meaning) (w : List ℕ) (s : Store) (n : ℕ) : Type 0 where
   pub below : n < s .count
-  pub from : u ≤ varAt w n
+  pub from : From u w n
   pub is : s .full ≡ false → (τ : ℕ → Bool) → Near σ τ → value w τ n ≡ μ τ
 
 module _ {σ : ℕ → Bool} where
@@ -43,7 +42,7 @@ module _ {σ : ℕ → Bool} where
 
   -- a node on variables from u up is on variables from any lesser one up
   pub means-from : {w : List ℕ} {s : Store} {u u′ n : ℕ} {μ : Meaning} → u′ ≤ u → Means σ u μ w s n → Means σ u′ μ w s n
-  means-from h N = record { below = N .below; from = omega (arith, N .from); is = N .is }
+  means-from {w} {n = n} h N = record { below = N .below; from = from-less w n h (N .from); is = N .is }
 
   -- a node keeps its meaning
   pub up : {A : Type 0} {w : List ℕ} {s : Store} {P : List ℕ → Store → A → Type 0} {x : Outcome A} {u n : ℕ} {μ : Meaning} → Standard w (s .count) → Builds w s P x → Means σ u μ w s n → Means σ u μ (x .words) (x .store) n
@@ -58,7 +57,7 @@ module _ {σ : ℕ → Bool} where
       record { below = U .below; from = U .from; is = λ f τ h. stands-turns S U f τ σ (λ v k. h .user v k) }
 
   pub one-means : {w : List ℕ} {s : Store} (u : ℕ) → u ≤ 64 → Standard w (s .count) → Means σ u (λ τ. true) w s 1
-  one-means {w} {s} u l S = record { below = omega (arith, S .two); from = omega (arith, S .var1); is = λ f τ h. value-1 w τ }
+  one-means {w} {s} u l S = record { below = omega (arith, S .two); from = from-1 u S l; is = λ f τ h. value-1 w τ }
 
   module _ {w : List ℕ} {s : Store} {u : ℕ} (S : Standard w (s .count)) where
     pub ite-means : {f g h : ℕ} {p q r : Meaning} → Means σ u p w s f → Means σ u q w s g → Means σ u r w s h → Builds w s (Means σ u (λ τ. cond (p τ) (q τ) (r τ))) (Ite f g h w s)

@@ -6,9 +6,8 @@ use Prim.Native.Nat.{ℕ, zero, suc, _*_}
 use native.Mathlib.Omega.{arith}
 use lib.Dec.{eqb}
 use lib.ListN.{getD}
-use Rattle.nodes.specs.Words.{capacityOf}
-use Rattle.nodes.specs.Standard.{Standard}
 use Rattle.nodes.proofs.BoolLaws.{split}
+use Rattle.conditions.specs.Stores.{Standard, capacityOf}
 use Rattle.conditions.specs.declared.Store.{Store}
 use Rattle.conditions.specs.Build.{Outcome, Build}
 use Rattle.conditions.specs.Meaning.{Within, Fills}

@@ -5,9 +5,7 @@ use mathlib.Core.List.{List, []}
 use Prim.Native.Nat.{ℕ, _*_}
 use native.Mathlib.Omega.{arith}
 use lib.ListN.{length, getD}
-use Rattle.nodes.specs.Standard.{Standard}
-use Rattle.nodes.specs.Extends.{Extends}
-use Rattle.nodes.specs.Clear.{clearOf}
+use Rattle.conditions.specs.Stores.{Standard, Extends, clearOf}
 use Rattle.conditions.specs.declared.Store.{Store}
 use Rattle.conditions.specs.Build.{Outcome}
 use Rattle.conditions.specs.Value.{value}

@@ -5,16 +5,8 @@ use mathlib.Core.List.{List, [], _∷_, List·Memᴰ, List·Memᴰ·head, List·
 use Prim.Native.Nat.{ℕ}
 use lib.Dec.{eqb}
 use borrow.Author.Tests.{eqb-true}
-use Rattle.nodes.specs.Words.{hasWords}
-use Rattle.nodes.specs.Search.{seek, every}
-use Rattle.nodes.specs.Standard.{counted, terminals, lowest, isStandard}
 use Rattle.nodes.proofs.BoolLaws.{and-both}
-use Rattle.conditions.specs.Build.{next, forEach}
-use Rattle.conditions.specs.Make.{Make}
-use Rattle.conditions.specs.Ite.{plainOf, partOf, iteBy, iteUpTo, Ite}
-use Rattle.conditions.specs.Any.{stopOf, anyBy, anyUpTo, Any}
-use Rattle.conditions.specs.User.{isUser}
-use Rattle.conditions.specs.Meet.{judgeOf, meetsBy, meetsUpTo, meets, neither}
+use Rattle.conditions.specs.Computing.{computing}
 use Rattle.model.specs.Record.{listCapacity, appended}
 use Rattle.model.specs.Access.{uniqueBit, Unique, Certain, Write, narrowBit, Narrow, halfStep, EachHalf, mergeHalf, entryStep, settleHalf, Look, maskHalf, Read, insideHalf, Inside, Check}
 use Rattle.model.specs.Rows.{row1, row3}
@@ -23,8 +15,7 @@ use Rattle.model.specs.Rulings.{Expected, reading, leaving, Ruling, ruli
 
 pub rulings-hold : allRuled rulings ≡ true
 unfolding
-    hasWords seek every counted terminals lowest isStandard
-    next forEach Make plainOf partOf iteBy iteUpTo Ite stopOf anyBy anyUpTo Any isUser judgeOf meetsBy meetsUpTo meets neither
+    computing
     listCapacity appended uniqueBit Unique Certain Write narrowBit Narrow halfStep EachHalf mergeHalf entryStep settleHalf Look Read insideHalf Inside Check
     row1 row3 closed unlessFull finishAccess step run fresh rulings start result taken ruled allRuled
 rulings-hold = refl

@@ -10,9 +10,8 @@ use lib.Dec.{T, eqb}
 use lib.ListN.{length, getD, length-append, List·getD-append}
 use lib.Seq.{getD-at}
 use borrow.Author.Tests.{eqb-true, leb-true}
-use Rattle.nodes.specs.Standard.{Standard}
-use Rattle.nodes.specs.Clear.{clearOf}
 use Rattle.nodes.proofs.BoolLaws.{split, and-both}
+use Rattle.conditions.specs.Stores.{Standard, clearOf}
 use Rattle.conditions.specs.declared.Store.{Store}
 use Rattle.conditions.specs.Build.{Outcome, Build}
 use Rattle.conditions.specs.Make.{Variable}

@@ -8,11 +8,10 @@ use native.Mathlib.Omega.{arith}
 use native.Mathlib.Decide.{decLt}
 use lib.ListN.{length, getD, List·getD-append}
 use lib.Seq.{getD-append-add}
-use Rattle.nodes.specs.Standard.{Standard}
-use Rattle.nodes.specs.Extends.{Agree, Extends}
 use Rattle.nodes.proofs.SearchLaws.{every-is, is-every}
+use Rattle.conditions.specs.Stores.{Standard, Agree, Extends}
 use Rattle.conditions.specs.User.{isUser}
-use Rattle.conditions.proofs.Promises.{agree-var, is-standard, user-is, is-user}
+use Rattle.conditions.proofs.Promises.{from-stays, is-standard, user-is, is-user}
 use Rattle.model.specs.Record.{size, listCapacity, appended}
 use Rattle.model.specs.Access.{Marks}
 use Rattle.model.specs.Rows.{users, row1}
@@ -25,7 +24,7 @@ use Rattle.model.proofs.ThirdLaws.{User, Third, third-is, is-third}
 pub user-stays : {w w′ : List ℕ} {c : ℕ} (c′ : ℕ) → Agree w w′ c → c ≤ c′ → (n : ℕ) → isUser w c n ≡ true → isUser w′ c′ n ≡ true
 user-stays {w} {w′} {c} c′ E l n u =
     let p = user-is w c n u in
-    is-user w′ c′ n (omega arith) (rw (agree-var E n (p .0)) (p .1))
+    is-user w′ c′ n (omega arith) (from-stays E n (p .0) (p .1))
 
 pub user-grows : {w w′ : List ℕ} {c c′ : ℕ} → Extends w c w′ c′ → (n : ℕ) → isUser w c n ≡ true → isUser w′ c′ n ≡ true
 user-grows {c′ = c′} E = user-stays c′ (E .old) (E .more)

@@ -5,9 +5,7 @@ use mathlib.Core.List.{List, [], _∷_}
 use Prim.Native.Nat.{ℕ, zero, suc, _+_, _*_, _<_, _≤_}
 use lib.Dec.{eqb}
 use lib.ListN.{length, getD}
-use Rattle.nodes.specs.Words.{capacityOf}
-use Rattle.nodes.specs.Extends.{Extends}
-use Rattle.nodes.specs.Clear.{clearOf}
+use Rattle.conditions.specs.Stores.{capacityOf, Extends, clearOf}
 use Rattle.conditions.specs.declared.Store.{Store}
 use Rattle.model.specs.Record.{Record, size}
 use Rattle.model.specs.Rows.{row1, row2, row3}

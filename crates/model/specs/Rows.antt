@@ -5,7 +5,7 @@ use Prim.Native.Nat.{ℕ, _+_, _*_}
 use lib.Dec.{eqb, ltb, leb}
 use lib.ListN.{length, getD}
 use Rattle.nodes.specs.Search.{every}
-use Rattle.nodes.specs.Standard.{isStandard}
+use Rattle.conditions.specs.Stores.{isStandard}
 use Rattle.conditions.specs.User.{isUser}
 use Rattle.conditions.specs.Meet.{neither, together}
 use Rattle.model.specs.Record.{Record, hAt, lAt, addressWords, cellWords, dataWords, size, listCapacity}

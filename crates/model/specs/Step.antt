@@ -4,8 +4,7 @@ use mathlib.Core.List.{List, [], _∷_}
 use Prim.Native.Nat.{ℕ, zero, suc, _+_}
 use lib.Dec.{eqb, leb}
 use lib.ListN.{length, getD}
-use Rattle.nodes.specs.Words.{withTerminals}
-use Rattle.nodes.specs.Clear.{clearOf}
+use Rattle.conditions.specs.Stores.{withTerminals, clearOf}
 use Rattle.conditions.specs.declared.Store.{Store}
 use Rattle.conditions.specs.Build.{Outcome, Build}
 use Rattle.conditions.specs.Make.{Variable}
