@@ -1,7 +1,1 @@
-pub mod AppendLaws
-pub mod CallLaws
-pub mod WriteLaws
-pub mod CheckLaws
-pub mod ReadLaws
-pub mod AssertLaws
-pub mod ChainLaws
+pub mod HandLaws

@@ -1,26 +1,21 @@
-// The calls: each tests its arguments by the table of refusals, in its order, and then does what the model says.
+// The calls, as methods on the record: each hands the record's fields on to the crate below that does it, and says its answer.
 ghost use mathlib.Core.Path.{_≡_};
-ghost use mathlib.Core.List.{[]};
-ghost use Prim.Native.Nat.{ℕ, _*_, _≤_};
+ghost use Prim.Native.Nat.{_*_};
 ghost use lib.ListN.{length};
-ghost use Rattle.nodes.specs.Standard.{Standard};
-ghost use Rattle.model.specs.Record.{size, listCapacity, appended};
-ghost use Rattle.model.specs.Rows.{firstRow, row1, row3, memoryRows, checkRows};
-ghost use Rattle.model.specs.Step.{begin, freshRecord};
+ghost use Rattle.conditions.specs.Contract.{Sound};
+ghost use Rattle.model.specs.Step.{place, accepted, node, valued, begin, write, assert, check, evaluate, variable, ite, fresh};
 ghost use Rattle.model.specs.Frames.{Valid};
-ghost use Rattle.memory.specs.Contract.{recordOf, stateOf, overflow, Space};
-
-mod append;
-mod assert;
-mod check;
-mod node_calls;
-mod read;
-mod rows;
-mod write;
-
+ghost use Rattle.rows.specs.Contract.{unlessRefused, Answers, AnswersOn};
+ghost use Rattle.node_calls.specs.Contract.{numbered, freshed};
+ghost use Rattle.assert_access.specs.Contract as assert_access;
+ghost use Rattle.memory.specs.Contract.{fieldsOf, recordOf, stateOf, freshAnswer, writeAnswer, assertAnswer, checkAnswer, nodeAnswer, valueAnswer, Says, SaysRead, AnswersNoList, ReadAnswers, ReadAnswersOn};
 use access::ControlNode;
-use access::Marks;
-use conditions::Store;
+use assert_access::AssertDone;
+use conditions::Table;
+use node_calls::NodeDone;
+use node_calls::ValueDone;
+use rows::Done;
+use rows::Fields;
 
 // A memory of n address bits and w data bits: its counts of nodes and entries, and its two conditions.
 pub struct Record {
@@ -104,112 +99,319 @@ pub struct ValueResult {
     pub answer: ValueAnswer,
 }
 
-// Row 1.
-fn in_range(n: u32, w: u32) -> bool
-    ensures { λ r. ⌜ r ≡ row1 (freshRecord n w) [] ⌝ }
+// The record of these fields.
+fn recorded(f: Fields) -> Record
+    ensures { λ r. ⌜ fieldsOf r ≡ f ⌝ }
 {
-    (1 <= n) & (n <= 8) & (1 <= w) & (w <= 16)
+    Record {
+        n: f.n,
+        w: f.w,
+        count: f.count,
+        entries: f.entries,
+        asserted: f.asserted,
+        checked: f.checked,
+    }
 }
 
-// Whether the store is full, which is refusal 9; the words past the count are then cleared.
-fn overflowed(words: &mut [u32], count: u32, s: Store) -> bool
-    requires { ⌜ count * 3 ≤ length (now words) ⌝ }
-    ensures { λ r. ⌜ (now (words .exit), r) ≡ overflow (now (words .entry)) count s ⌝ }
+// What each call answers by its number, and where that is 0.
+fn fresh_result(d: Done) -> FreshResult
+    ensures { λ x. ⌜ Says (x .after) (d .after) (freshAnswer (x .answer)) (numbered (d .row)) ⌝ }
 {
-    if s.full {
-        nodes::clear(words, count);
-        return true;
+    let after = recorded(d.after);
+    let k = d.row;
+    if k != 0 {
+        return FreshResult {
+            after,
+            answer: FreshAnswer::Refused(k),
+        };
     }
-    false
+    FreshResult {
+        after,
+        answer: FreshAnswer::Accepted,
+    }
+}
+
+fn write_result(d: Done, at: u32) -> WriteResult
+    ensures { λ x. ⌜ Says (x .after) (d .after) (writeAnswer (x .answer)) (unlessRefused (d .row) (place at)) ⌝ }
+{
+    let after = recorded(d.after);
+    let k = d.row;
+    if k != 0 {
+        return WriteResult {
+            after,
+            answer: WriteAnswer::Refused(k),
+        };
+    }
+    WriteResult {
+        after,
+        answer: WriteAnswer::Place(at),
+    }
+}
+
+fn read_result(d: Done) -> ReadResult
+    ensures { λ x. ⌜ SaysRead (x .after) (d .after) (x .answer) (d .row) ⌝ }
+{
+    let after = recorded(d.after);
+    let k = d.row;
+    if k != 0 {
+        return ReadResult {
+            after,
+            answer: ReadAnswer::Refused(k),
+        };
+    }
+    ReadResult {
+        after,
+        answer: ReadAnswer::Filled,
+    }
+}
+
+fn check_result(d: Done) -> CheckResult
+    ensures { λ x. ⌜ Says (x .after) (d .after) (checkAnswer (x .answer)) (unlessRefused (d .row) accepted) ⌝ }
+{
+    let after = recorded(d.after);
+    let k = d.row;
+    if k != 0 {
+        return CheckResult {
+            after,
+            answer: CheckAnswer::Refused(k),
+        };
+    }
+    CheckResult {
+        after,
+        answer: CheckAnswer::Accepted,
+    }
+}
+
+fn node_result(d: NodeDone) -> NodeResult
+    ensures { λ x. ⌜ Says (x .after) (d .after) (nodeAnswer (x .answer)) (unlessRefused (d .row) (node (d .node))) ⌝ }
+{
+    let after = recorded(d.after);
+    let k = d.row;
+    if k != 0 {
+        return NodeResult {
+            after,
+            answer: NodeAnswer::Refused(k),
+        };
+    }
+    NodeResult {
+        after,
+        answer: NodeAnswer::Node(d.node),
+    }
+}
+
+fn assert_result(d: AssertDone) -> AssertResult
+    ensures { λ x. ⌜ Says (x .after) (d .after) (assertAnswer (x .answer)) (assert_access.assertAnswer (d .row) (d .kept)) ⌝ }
+{
+    let after = recorded(d.after);
+    let k = d.row;
+    if k != 0 {
+        return AssertResult {
+            after,
+            answer: AssertAnswer::Refused(k),
+        };
+    }
+    if d.kept {
+        return AssertResult {
+            after,
+            answer: AssertAnswer::Kept,
+        };
+    }
+    AssertResult {
+        after,
+        answer: AssertAnswer::Entered,
+    }
+}
+
+fn value_result(r: Record, d: ValueDone) -> ValueResult
+    ensures { λ x. ⌜ Says (x .after) (fieldsOf r) (valueAnswer (x .answer)) (unlessRefused (d .row) (valued (d .value))) ⌝ }
+{
+    let k = d.row;
+    if k != 0 {
+        return ValueResult {
+            after: r,
+            answer: ValueAnswer::Refused(k),
+        };
+    }
+    ValueResult {
+        after: r,
+        answer: ValueAnswer::Value(d.value),
+    }
 }
 
 impl Record {
-    // The store as a call finds it.
-    fn begin(self) -> Store
-        ensures { λ s. ⌜ s ≡ begin (recordOf self) ⌝ }
+    // What the crates below work on.
+    fn fields(self) -> Fields
+        ensures { λ f. ⌜ f ≡ fieldsOf self ⌝ }
     {
-        Store {
+        Fields {
+            n: self.n,
+            w: self.w,
             count: self.count,
-            full: false,
+            entries: self.entries,
+            asserted: self.asserted,
+            checked: self.checked,
         }
     }
 
-    // The words of an entry.
-    fn size(self) -> usize
-        requires { ⌜ (self .n ≤ 8) × (self .w ≤ 16) ⌝ }
-        ensures { λ r. ⌜ r ≡ size (recordOf self) ⌝ }
+    // Fresh: a memory with no entries and both conditions 1, over node words that hold the two terminals.
+    pub fn fresh(self, words: &mut [u32], n: u32, w: u32) -> FreshResult
+        ensures { λ r. ⌜ freshed (fresh (recordOf self) n w (now (words .entry))) ≡ (freshAnswer (r .answer), recordOf (r .after), now (words .exit)) ⌝ }
     {
-        2 + 2 * (self.n as usize) + 2 * (self.w as usize)
+        fresh_result(node_calls::fresh(self.fields(), words, n, w))
     }
 
-    // How many entries there is space for.
-    fn list_capacity(self, list: &[u32]) -> u32
-        requires { ⌜ (self .n ≤ 8) × (self .w ≤ 16) ⌝ }
-        ensures { λ r. ⌜ r ≡ listCapacity (recordOf self) (now (list .entry)) ⌝ }
+    // The value of node f under the 64-bit assignment a.
+    pub fn evaluate(self, words: &[u32], f: u32, a: u64) -> ValueResult
+        ensures { λ r. ⌜ AnswersNoList (evaluate f a) self (now (words .entry)) (r .after) (now (words .entry)) (valueAnswer (r .answer)) ⌝ }
     {
-        let k = list.len() / self.size();
-        if k < 4096 { k as u32 } else { 4096 }
+        value_result(self, node_calls::evaluate(self.fields(), words, f, a))
     }
 
-    // The list's next entry.
-    fn append_entry(self, list: &mut [u32], m: Marks, address: &[u32], data: &[u32])
-        requires { ⌜ Space self (now list) (now address) (now «data») ⌝ }
-        ensures { λ _. ⌜ now (list .exit) ≡ appended (recordOf self) (now (list .entry)) (m .hard) (m .soft) (now (address .entry)) (now («data» .entry)) ⌝ }
+    // The node of variable v.
+    pub fn variable(self, words: &mut [u32], v: u32) -> NodeResult
+        ensures { λ r. ⌜ AnswersNoList (variable v) self (now (words .entry)) (r .after) (now (words .exit)) (nodeAnswer (r .answer)) ⌝ }
     {
-        let at = (self.entries as usize) * self.size();
-        append::append(list, at, m.hard, m.soft, address, data);
+        node_result(node_calls::variable(self.fields(), words, v))
     }
 
-    // Row 3.
-    fn is_listed(self, words: &[u32], list: &[u32]) -> bool
-        requires { ⌜ (self .n ≤ 8) × (self .w ≤ 16) × Standard (now words) (self .count) ⌝ }
-        ensures { λ r. ⌜ r ≡ row3 (recordOf self) (now (words .entry)) (now (list .entry)) ⌝ }
+    // The node of Ite(f, g, h).
+    pub fn ite(self, words: &mut [u32], f: u32, g: u32, h: u32) -> NodeResult
+        ensures { λ r. ⌜ AnswersNoList (ite f g h) self (now (words .entry)) (r .after) (now (words .exit)) (nodeAnswer (r .answer)) ⌝ }
     {
-        if self.list_capacity(list) < self.entries {
-            return false;
-        }
-        let k = (self.entries as usize) * self.size();
-        let x = rows::users_up_to(words, self.count, list, k);
-        let y = conditions::is_user(words, self.count, self.asserted);
-        let z = conditions::is_user(words, self.count, self.checked);
-        x & y & z
+        node_result(node_calls::ite(self.fields(), words, f, g, h))
     }
 
-    // The first of rows 1 to 3 that refuses an access, or 0.
-    fn memory_row(self, words: &[u32], list: &[u32]) -> u32
-        ensures { λ r. ⌜ r ≡ firstRow (memoryRows (recordOf self) (now (words .entry)) (now (list .entry)) []) ⌝ }
-    {
-        let x = in_range(self.n, self.w);
-        let y = nodes::is_standard(words, self.count);
-        if !x {
-            return 1;
-        }
-        if !y {
-            return 2;
-        }
-        if self.is_listed(words, list) { 0 } else { 3 }
-    }
-
-    // The row that refuses a check of a valid memory, or 0; of an assert its rows up to 6.
-    fn check_row(
+    // A write to a valid memory: rows 5 to 9, and the entry.
+    pub fn write_on(
         self,
-        words: &[u32],
+        words: &mut [u32],
+        list: &mut [u32],
+        table: &mut Table,
+        enable: &[u32],
+        address: &[u32],
+        data: &[u32],
+    ) -> WriteResult
+        requires { ⌜ Valid (stateOf self (now words) (now list)) × Sound (now words) (now table) (begin (recordOf self)) × (length (now enable) ≡ 2) × (length (now address) ≡ 2 * self .n) × (length (now «data») ≡ 2 * self .w) ⌝ }
+        ensures { λ r. ⌜ AnswersOn (write (now (enable .entry)) (now (address .entry)) (now («data» .entry))) (stateOf self (now (words .entry)) (now (list .entry))) (stateOf (r .after) (now (words .exit)) (now (list .exit))) (writeAnswer (r .answer)) (now (table .exit)) ⌝ }
+    {
+        let f = self.fields();
+        write_result(
+            write_access::write_on(f, words, list, table, enable, address, data),
+            self.entries,
+        )
+    }
+
+    // Write(c, a, d).
+    pub fn write(
+        self,
+        words: &mut [u32],
+        list: &mut [u32],
+        enable: &[u32],
+        address: &[u32],
+        data: &[u32],
+    ) -> WriteResult
+        ensures { λ r. ⌜ Answers (write (now (enable .entry)) (now (address .entry)) (now («data» .entry))) (stateOf self (now (words .entry)) (now (list .entry))) (stateOf (r .after) (now (words .exit)) (now (list .exit))) (writeAnswer (r .answer)) ⌝ }
+    {
+        let f = self.fields();
+        write_result(
+            write_access::write(f, words, list, enable, address, data),
+            self.entries,
+        )
+    }
+
+    // A read of a valid memory: rows 5 to 9, and the word.
+    pub fn read_on(
+        self,
+        words: &mut [u32],
+        list: &[u32],
+        table: &mut Table,
+        enable: &[u32],
+        address: &[u32],
+        answer: &mut [u32],
+    ) -> ReadResult
+        requires { ⌜ Valid (stateOf self (now words) (now list)) × Sound (now words) (now table) (begin (recordOf self)) × (length (now enable) ≡ 2) × (length (now address) ≡ 2 * self .n) × (length (now answer) ≡ 2 * self .w) ⌝ }
+        ensures { λ r. ⌜ ReadAnswersOn self (now (words .entry)) (now (list .entry)) (now (enable .entry)) (now (address .entry)) (now (answer .entry)) (r .after) (now (words .exit)) (now (answer .exit)) (r .answer) (now (table .exit)) ⌝ }
+    {
+        let f = self.fields();
+        read_result(read_access::read_on(f, words, list, table, enable, address, answer))
+    }
+
+    // Read(e, a).
+    pub fn read(
+        self,
+        words: &mut [u32],
+        list: &[u32],
+        enable: &[u32],
+        address: &[u32],
+        answer: &mut [u32],
+    ) -> ReadResult
+        ensures { λ r. ⌜ ReadAnswers self (now (words .entry)) (now (list .entry)) (now (enable .entry)) (now (address .entry)) (now (answer .entry)) (r .after) (now (words .exit)) (now (answer .exit)) (r .answer) ⌝ }
+    {
+        let f = self.fields();
+        read_result(read_access::read(f, words, list, enable, address, answer))
+    }
+
+    // A check of a valid memory: rows 5 to 9, and the check condition.
+    pub fn check_on(
+        self,
+        words: &mut [u32],
+        list: &[u32],
+        table: &mut Table,
+        b: ControlNode,
+        address: &[u32],
+        data: &[u32],
+    ) -> CheckResult
+        requires { ⌜ Valid (stateOf self (now words) (now list)) × Sound (now words) (now table) (begin (recordOf self)) × (length (now address) ≡ 2 * self .n) × (length (now «data») ≡ 2 * self .w) ⌝ }
+        ensures { λ r. ⌜ AnswersOn (check (b .0) (now (address .entry)) (now («data» .entry))) (stateOf self (now (words .entry)) (now (list .entry))) (stateOf (r .after) (now (words .exit)) (now (list .entry))) (checkAnswer (r .answer)) (now (table .exit)) ⌝ }
+    {
+        let f = self.fields();
+        check_result(check_access::check_on(f, words, list, table, b, address, data))
+    }
+
+    // Check(b, a, d).
+    pub fn check(
+        self,
+        words: &mut [u32],
         list: &[u32],
         b: ControlNode,
         address: &[u32],
         data: &[u32],
-    ) -> u32
-        requires { ⌜ Valid (stateOf self (now words) (now list)) × (length (now address) ≡ 2 * self .n) × (length (now «data») ≡ 2 * self .w) ⌝ }
-        ensures { λ r. ⌜ r ≡ firstRow (checkRows (recordOf self) (now (words .entry)) (now (list .entry)) (b .0) (now (address .entry)) (now («data» .entry))) ⌝ }
+    ) -> CheckResult
+        ensures { λ r. ⌜ Answers (check (b .0) (now (address .entry)) (now («data» .entry))) (stateOf self (now (words .entry)) (now (list .entry))) (stateOf (r .after) (now (words .exit)) (now (list .entry))) (checkAnswer (r .answer)) ⌝ }
     {
-        let x = conditions::is_user(words, self.count, b.0);
-        let y = rows::users_up_to(words, self.count, address, address.len());
-        let z = rows::users_up_to(words, self.count, data, data.len());
-        if !(x & y & z) {
-            return 5;
-        }
-        let y = rows::legal_pairs(words, self.count, address, self.n as usize);
-        let z = rows::legal_pairs(words, self.count, data, self.w as usize);
-        if y & z { 0 } else { 6 }
+        let f = self.fields();
+        check_result(check_access::check(f, words, list, b, address, data))
+    }
+
+    // An assert to a valid memory: rows 5 to 9, the assert condition, and the entry where it is not kept.
+    pub fn assert_on(
+        self,
+        words: &mut [u32],
+        list: &mut [u32],
+        table: &mut Table,
+        b: ControlNode,
+        address: &[u32],
+        data: &[u32],
+    ) -> AssertResult
+        requires { ⌜ Valid (stateOf self (now words) (now list)) × Sound (now words) (now table) (begin (recordOf self)) × (length (now address) ≡ 2 * self .n) × (length (now «data») ≡ 2 * self .w) ⌝ }
+        ensures { λ r. ⌜ AnswersOn (assert (b .0) (now (address .entry)) (now («data» .entry))) (stateOf self (now (words .entry)) (now (list .entry))) (stateOf (r .after) (now (words .exit)) (now (list .exit))) (assertAnswer (r .answer)) (now (table .exit)) ⌝ }
+    {
+        let f = self.fields();
+        assert_result(assert_access::assert_on(f, words, list, table, b, address, data))
+    }
+
+    // Assert(b, a, d).
+    pub fn assert(
+        self,
+        words: &mut [u32],
+        list: &mut [u32],
+        b: ControlNode,
+        address: &[u32],
+        data: &[u32],
+    ) -> AssertResult
+        ensures { λ r. ⌜ Answers (assert (b .0) (now (address .entry)) (now («data» .entry))) (stateOf self (now (words .entry)) (now (list .entry))) (stateOf (r .after) (now (words .exit)) (now (list .exit))) (assertAnswer (r .answer)) ⌝ }
+    {
+        let f = self.fields();
+        assert_result(assert_access::assert(f, words, list, b, address, data))
     }
 }

@@ -22,7 +22,7 @@ use Rattle.model.specs.Pairs.{Pair, admit}
 use Rattle.model.specs.Record.{Record}
 use Rattle.model.specs.Access.{Marks, Write, Asserted}
 use Rattle.model.specs.Rows.{row8}
-use Rattle.model.specs.Step.{State, write, read, assert, check, evaluate, variable, ite, Call, access, nodeCall, Given, place, filled, entered, kept, accepted, valued, node, done, isRefused, Result, refusal, Finish, full, short, gives, closed, unlessFull, begin, grown, withEntry, withAssertCondition, assertFirst, enter, finishAccess, finishNode, finish, unlessRefused, step}
+use Rattle.model.specs.Step.{State, write, read, assert, check, evaluate, variable, ite, Call, access, nodeCall, Given, place, filled, entered, kept, accepted, valued, node, done, isRefused, Result, refusal, Finish, full, short, gives, closed, unlessFull, begin, grown, withEntry, withAssertCondition, assertFirst, enter, finishAccess, finishNode, finish, turnedDownBy, step}
 use Rattle.model.specs.Published.{answer, assertHolds, checkHolds, keeps, control}
 use Rattle.model.specs.Claims.{pairAt}
 use Rattle.model.specs.Meanings.{entryValues, addressArgument, wordArgument, Enters, Demand2, EnteredWhere}
@@ -39,7 +39,7 @@ acts : (c : Call) (s : State) → isRefused (step c s .answer) ≡ false → (re
 unfolding step
 acts c s q = go (refusal c s) refl q
   where
-    go : (n : ℕ) → refusal c s ≡ n → isRefused (unlessRefused n s (closed s (finish c s)) .answer) ≡ false → (refusal c s ≡ 0) × (unlessRefused (refusal c s) s (closed s (finish c s)) ≡ closed s (finish c s))
+    go : (n : ℕ) → refusal c s ≡ n → isRefused (turnedDownBy n s (closed s (finish c s)) .answer) ≡ false → (refusal c s ≡ 0) × (turnedDownBy (refusal c s) s (closed s (finish c s)) ≡ closed s (finish c s))
     go zero e q = (e, rw e)
     go (suc n) e q = absurd (true≢false q)
 

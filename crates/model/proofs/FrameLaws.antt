@@ -18,7 +18,7 @@ use Rattle.conditions.proofs.Promises.{from-1, extends-refl, extends-trans, sta
 use Rattle.model.specs.Record.{listCapacity}
 use Rattle.model.specs.Access.{Write, Read, Check}
 use Rattle.model.specs.Rows.{Row, firstRow, users, row1, row8, writeRows, readRows, assertRows, checkRows, evaluateRows, variableRows, iteRows}
-use Rattle.model.specs.Step.{State, withWords, write, read, assert, check, evaluate, variable, ite, Call, access, nodeCall, Given, place, filled, entered, kept, accepted, node, Answer, refused, done, isRefused, Filling, fills, fillsNone, filling, Result, refusal, turnedDown, Finish, full, short, gives, closed, unlessFull, begin, grown, withEntry, withAssertCondition, assertFirst, enter, finishAccess, finishNode, finish, unlessRefused, step, run, fresh, freshRows, freshUnless, freshRecord}
+use Rattle.model.specs.Step.{State, withWords, write, read, assert, check, evaluate, variable, ite, Call, access, nodeCall, Given, place, filled, entered, kept, accepted, node, Answer, refused, done, isRefused, Filling, fills, fillsNone, filling, Result, refusal, turnedDown, Finish, full, short, gives, closed, unlessFull, begin, grown, withEntry, withAssertCondition, assertFirst, enter, finishAccess, finishNode, finish, turnedDownBy, step, run, fresh, freshRows, freshUnless, freshRecord}
 use Rattle.model.specs.Claims.{pairs}
 use Rattle.model.specs.Frames.{clears, wordsAfter, RefusalLeaves, RefusalNumber, Extended, SuccessLeaves, Valid, StaysValid, NoRow123, FreshValid, FreshNoRow123, writeOrAssert, acceptedWrites, CountAtMost}
 use Rattle.model.proofs.MeansLaws.{Means, user-means}
@@ -197,7 +197,7 @@ step-leaves : (c : Call) (s : State) → Leaves c s (step c s)
 unfolding step
 step-leaves c s = go (refusal c s) refl
   where
-    go : (k : ℕ) → refusal c s ≡ k → Leaves c s (unlessRefused k s (closed s (finish c s)))
+    go : (k : ℕ) → refusal c s ≡ k → Leaves c s (turnedDownBy k s (closed s (finish c s)))
     go zero e = finish-leaves c s e
     go (suc k) e = turned-leaves c s k e
 
@@ -280,7 +280,7 @@ module _ (e a out : List ℕ) (s : State) where
   unfolding step
   read-below = go (refusal (access (read e a out)) s) refl
     where
-      go : (k : ℕ) → refusal (access (read e a out)) s ≡ k → Below (unlessRefused k s (closed s (finish (access (read e a out)) s)))
+      go : (k : ℕ) → refusal (access (read e a out)) s ≡ k → Below (turnedDownBy k s (closed s (finish (access (read e a out)) s)))
       go zero z = read-acts z
       go (suc k) z = tt
 

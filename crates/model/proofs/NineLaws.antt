@@ -15,7 +15,7 @@ use Rattle.conditions.proofs.Promises.{standard-within, pure-fills, next-fills,
 use Rattle.model.specs.Record.{Record, hAt, lAt, entryAt, addressOf, dataOf}
 use Rattle.model.specs.Access.{uniqueBit, Unique, Certain, Write, narrowBit, Narrow, halfStep, EachHalf, mergeHalf, entryStep, settleHalf, Look, Read, insideHalf, Inside, Check, Assert}
 use Rattle.model.specs.Rows.{row8}
-use Rattle.model.specs.Step.{State, write, read, assert, check, evaluate, variable, ite, Call, access, nodeCall, Given, refused, refusal, Finish, full, short, gives, closed, unlessFull, begin, assertFirst, enter, finishAccess, finishNode, finish, unlessRefused, step}
+use Rattle.model.specs.Step.{State, write, read, assert, check, evaluate, variable, ite, Call, access, nodeCall, Given, refused, refusal, Finish, full, short, gives, closed, unlessFull, begin, assertFirst, enter, finishAccess, finishNode, finish, turnedDownBy, step}
 use Rattle.model.specs.Frames.{lateRow, NineAtCapacity}
 use Rattle.model.proofs.FactLaws.{call-standard}
 use Rattle.model.proofs.FrameLaws.{plain, rows-plain}
@@ -137,7 +137,7 @@ pub nine-at-capacity : NineAtCapacity
 unfolding NineAtCapacity step
 nine-at-capacity c s = go (refusal c s) refl
   where
-    go : (k : ℕ) → refusal c s ≡ k → unlessRefused k s (closed s (finish c s)) .answer ≡ refused 9 → (t : Store) × (finish c s ≡ full t) × (t .count ≡ capacityOf (s .words))
+    go : (k : ℕ) → refusal c s ≡ k → turnedDownBy k s (closed s (finish c s)) .answer ≡ refused 9 → (t : Store) × (finish c s ≡ full t) × (t .count ≡ capacityOf (s .words))
     go zero r e = let S = call-standard c s r in at-nine s S (finish c s) (finish-met s S c) (nine-full s (finish c s) e)
     go (suc k) r e =
         let z : suc k ≡ 9 = cc in

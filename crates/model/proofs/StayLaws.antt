@@ -9,7 +9,7 @@ use borrow.Author.Tests.{eq-eqb}
 use Rattle.nodes.proofs.BoolLaws.{split}
 use Rattle.conditions.specs.Build.{Outcome}
 use Rattle.model.specs.Rows.{row8}
-use Rattle.model.specs.Step.{State, write, read, assert, check, evaluate, variable, ite, Call, access, nodeCall, Answer, refused, done, isRefused, Result, refusal, Finish, full, short, gives, closed, unlessFull, assertFirst, enter, finishAccess, finishNode, finish, unlessRefused, step}
+use Rattle.model.specs.Step.{State, write, read, assert, check, evaluate, variable, ite, Call, access, nodeCall, Answer, refused, done, isRefused, Result, refusal, Finish, full, short, gives, closed, unlessFull, assertFirst, enter, finishAccess, finishNode, finish, turnedDownBy, step}
 use Rattle.model.specs.Frames.{isAssert, isCheck, lateRow, RefusedByRow, RowRefuses, ConditionsStay}
 
 -- what is closed is refused by its late row, and else not
@@ -72,7 +72,7 @@ pub conditions-stay : ConditionsStay
 unfolding ConditionsStay step
 conditions-stay c s = go (refusal c s)
   where
-    go : (k : ℕ) → (isAssert c ≡ false → unlessRefused k s (closed s (finish c s)) .after .rec .asserted ≡ s .rec .asserted) × (isCheck c ≡ false → unlessRefused k s (closed s (finish c s)) .after .rec .checked ≡ s .rec .checked)
+    go : (k : ℕ) → (isAssert c ≡ false → turnedDownBy k s (closed s (finish c s)) .after .rec .asserted ≡ s .rec .asserted) × (isCheck c ≡ false → turnedDownBy k s (closed s (finish c s)) .after .rec .checked ≡ s .rec .checked)
     go zero = let S = closed-stays c s (finish c s) (finish-stays c s) in (S .asserted, S .checked)
     go (suc k) = (λ e. refl, λ e. refl)
 
@@ -80,7 +80,7 @@ pub refused-by-row : RefusedByRow
 unfolding RefusedByRow step
 refused-by-row c s k e = go (refusal c s) e
   where
-    go : (j : ℕ) → unlessRefused j s (closed s (finish c s)) .answer ≡ refused k → (eqb j k || eqb j 0 && eqb (lateRow (finish c s)) k) ≡ true
+    go : (j : ℕ) → turnedDownBy j s (closed s (finish c s)) .answer ≡ refused k → (eqb j k || eqb j 0 && eqb (lateRow (finish c s)) k) ≡ true
     go zero e = split (eqb 0 k) (λ t. rw t) (λ t. rw (t, closed-refused s (finish c s) k e))
     go (suc j) e = let z : suc j ≡ k = cc in rw (eq-eqb (suc j) k z)
 

@@ -24,7 +24,7 @@ use Rattle.model.specs.Pairs.{Pair, legals, admit, unique, at}
 use Rattle.model.specs.Record.{Record, withCount, withEntries, withAsserted, withChecked, entryAt, appended, listCapacity}
 use Rattle.model.specs.Access.{Marks, Write, Read, Asserted, Assert, Check}
 use Rattle.model.specs.Rows.{row8}
-use Rattle.model.specs.Step.{State, write, read, assert, check, NodeCall, evaluate, variable, ite, Call, access, nodeCall, Given, place, filled, entered, kept, accepted, valued, node, Answer, refused, done, Result, refusal, turnedDown, cleared, Finish, full, short, gives, closed, unlessFull, begin, grown, withEntry, withAssertCondition, withCheckCondition, assertFirst, enter, finishAccess, finishNode, finish, unlessRefused, step}
+use Rattle.model.specs.Step.{State, write, read, assert, check, NodeCall, evaluate, variable, ite, Call, access, nodeCall, Given, place, filled, entered, kept, accepted, valued, node, Answer, refused, done, Result, refusal, turnedDown, cleared, Finish, full, short, gives, closed, unlessFull, begin, grown, withEntry, withAssertCondition, withCheckCondition, assertFirst, enter, finishAccess, finishNode, finish, turnedDownBy, step}
 use Rattle.model.specs.Published.{Entry, entry, answer, checkHolds, assertHolds, control, keeps}
 use Rattle.model.specs.Array.{Event, writes, reads, asserts, checks, nothing}
 use Rattle.model.specs.Held.{Held, add, heldAfter, NowMay, Accepted}
@@ -411,6 +411,6 @@ module _ (k : ℕ) (small : k < 2 ^ 64) (s : State) (h : Held) (H : Holds (bitAt
   unfolding step
   step-follows c = go (refusal c s) refl
     where
-      go : (n : ℕ) → refusal c s ≡ n → Follows σ s h c (unlessRefused n s (closed s (finish c s)))
+      go : (n : ℕ) → refusal c s ≡ n → Follows σ s h c (turnedDownBy n s (closed s (finish c s)))
       go zero e = finish-follows c e
       go (suc n) e = turned-follows σ s h H c (suc n)

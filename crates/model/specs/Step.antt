@@ -184,12 +184,12 @@ abbrev pub finish : Call → State → Finish
 finish (access c) s = finishAccess c s
 finish (nodeCall c) s = finishNode c s
 
-abbrev pub unlessRefused : ℕ → State → Result → Result
-unlessRefused zero s x = x
-unlessRefused (suc k) s x = turnedDown (suc k) s
+abbrev pub turnedDownBy : ℕ → State → Result → Result
+turnedDownBy zero s x = x
+turnedDownBy (suc k) s x = turnedDown (suc k) s
 
 unfoldable pub step : Call → State → Result
-step c s = unlessRefused (refusal c s) s (closed s (finish c s))
+step c s = turnedDownBy (refusal c s) s (closed s (finish c s))
 
 -- the state after a list of calls
 unfoldable pub run : List Call → State → State

@@ -1,23 +1,19 @@
-use Rattle.memory.proofs.AssertLaws.{assert-holds, enter-words}
-use Rattle.memory.proofs.CallLaws.{turned, acted, nine-acts, done-acts, over-left}
-use Rattle.memory.specs.Contract.{stateOf}
-use Rattle.model.specs.Step.{assert, act}
-use Rattle.model.specs.Access as built
-use Rattle.conditions.specs.Build.{Outcome}
-use Rattle.nodes.specs.Clear.{clearOf}
 use denote.Ref.{now}
-use lib.ListN.{length-take}
-use native.Mathlib.Omega.{arith}
-use Prim.Native.Nat.{ℕ}
-use mathlib.Core.List.{List}
-use mathlib.Core.Bool.{true≢false}
-use mathlib.Core.Path.{sym, ap, _∙_}
+use Rattle.model.specs.Step.{assert}
+use Rattle.memory.specs.Contract.{stateOf}
+use Rattle.memory.proofs.HandLaws.{handed-on}
 use borrow.Author.Needs.{needs}
 use Rattle.memory.proofs.Record.assert_on.Statement.{statement}
 use Rattle.memory.proofs.Record.assert_on.Tie as tie
 
-assert-row-requires : tie.Need-assert-row-requires
-assert-row-requires c κs = search needs
+fields-requires : tie.Need-fields-requires
+fields-requires c κs = search needs
+
+assert-on-requires : tie.Need-assert-on-requires
+assert-on-requires c κs = rw (c .before .before .before .fields .ensures) (c .before .before .before .before .before .before .before .before .pre)
+
+assert-result-requires : tie.Need-assert-result-requires
+assert-result-requires c κs = search needs
 
 same-length : tie.Need-same-length
 same-length c = search needs
@@ -26,93 +22,15 @@ same-length-2 : tie.Need-same-length-2
 same-length-2 c = search needs
 
 returns : tie.Need-returns
-returns c = record { is = turned (assert (c .before .before .before .before .before .before .before .before .args .b .0) (now (c .before .before .before .before .before .before .before .before .args .address)) (now (c .before .before .before .before .before .before .before .before .args .«data»))) (stateOf (c .before .before .before .before .before .before .before .before .args .self) (now (c .before .before .before .before .before .before .before .before .args .words)) (now (c .before .before .before .before .before .before .before .before .args .list))) (c .before .assert-row .ensures) (c .if1 .taken); sound = λ e. absurd (true≢false e) }
-
-begin-requires : tie.Need-begin-requires
-begin-requires c κs = search needs
-
-cast-w : tie.Need-cast-w
-cast-w c = search needs
-
-mul-word : tie.Need-mul-word
-mul-word c = search needs
-
-array-borrow-prefix-word : tie.Need-array-borrow-prefix-word
-array-borrow-prefix-word c =
-    let H = assert-holds (c .before .before .before .before .before .before .before .before .before .before .before .before .before .args .self) (now (c .before .before .before .before .before .before .before .before .before .before .before .before .before .args .words)) (now (c .before .before .before .before .before .before .before .before .before .before .before .before .before .args .list)) (c .before .before .before .before .before .before .before .before .before .before .before .before .before .args .b .0) (now (c .before .before .before .before .before .before .before .before .before .before .before .before .before .args .address)) (now (c .before .before .before .before .before .before .before .before .before .before .before .before .before .args .«data»)) (c .before .before .before .before .before .before .assert-row .ensures) (c .before .before .before .before .before .if1 .left) in
-    omega (arith, H .wide)
-
-slice-aggregate-assert-builds : tie.Need-slice-aggregate-assert-builds
-slice-aggregate-assert-builds c =
-    let H = assert-holds (c .before .before .before .before .before .before .before .before .before .before .before .before .before .before .args .self) (now (c .before .before .before .before .before .before .before .before .before .before .before .before .before .before .args .words)) (now (c .before .before .before .before .before .before .before .before .before .before .before .before .before .before .args .list)) (c .before .before .before .before .before .before .before .before .before .before .before .before .before .before .args .b .0) (now (c .before .before .before .before .before .before .before .before .before .before .before .before .before .before .args .address)) (now (c .before .before .before .before .before .before .before .before .before .before .before .before .before .before .args .«data»)) (c .before .before .before .before .before .before .before .assert-row .ensures) (c .before .before .before .before .before .before .if1 .left) in
-    simp length-take (omega (arith, H .wide))
-
-assert-builds-requires : tie.Need-assert-builds-requires
-assert-builds-requires c κs =
-    let p = c .before .before .before .before .before .before .before .before .before .before .before .before .before .before .pre in
-    let H = assert-holds (c .before .before .before .before .before .before .before .before .before .before .before .before .before .before .args .self) (now (c .before .before .before .before .before .before .before .before .before .before .before .before .before .before .args .words)) (now (c .before .before .before .before .before .before .before .before .before .before .before .before .before .before .args .list)) (c .before .before .before .before .before .before .before .before .before .before .before .before .before .before .args .b .0) (now (c .before .before .before .before .before .before .before .before .before .before .before .before .before .before .args .address)) (now (c .before .before .before .before .before .before .before .before .before .before .before .before .before .before .args .«data»)) (c .before .before .before .before .before .before .before .assert-row .ensures) (c .before .before .before .before .before .before .if1 .left) in
-    rw (c .before .before .before .before .before .begin .ensures) (p .1, H .looks, simp length-take (omega (arith, H .wide)), p .3, H .word, H .control, H .asserted)
-
-overflowed-requires : tie.Need-overflowed-requires
-overflowed-requires c κs =
-    let M = rw (c .before .before .before .before .before .before .before .before .before .before .begin .ensures) at (c .before .before .before .before .assert-builds .ensures) in
-    omega (arith, M .more, M .sound .standard .room)
-
-same-length-3 : tie.Need-same-length-3
-same-length-3 c = search needs
-
-same-length-4 : tie.Need-same-length-4
-same-length-4 c = search needs
-
-returns-2 : tie.Need-returns-2
-unfolding act
-returns-2 c =
-    let H = assert-holds (c .before .before .before .before .before .before .before .before .before .before .before .before .before .before .before .before .before .before .before .before .before .before .before .args .self) (now (c .before .before .before .before .before .before .before .before .before .before .before .before .before .before .before .before .before .before .before .before .before .before .before .args .words)) (now (c .before .before .before .before .before .before .before .before .before .before .before .before .before .before .before .before .before .before .before .before .before .before .before .args .list)) (c .before .before .before .before .before .before .before .before .before .before .before .before .before .before .before .before .before .before .before .before .before .before .before .args .b .0) (now (c .before .before .before .before .before .before .before .before .before .before .before .before .before .before .before .before .before .before .before .before .before .before .before .args .address)) (now (c .before .before .before .before .before .before .before .before .before .before .before .before .before .before .before .before .before .before .before .before .before .before .before .args .«data»)) (c .before .before .before .before .before .before .before .before .before .before .before .before .before .before .before .before .assert-row .ensures) (c .before .before .before .before .before .before .before .before .before .before .before .before .before .before .before .if1 .left) in
-    let M = rw (c .before .before .before .before .before .before .before .before .before .before .before .before .before .before .begin .ensures) at (c .before .before .before .before .before .before .before .before .assert-builds .ensures) in
-    record { is = acted (assert (c .before .before .before .before .before .before .before .before .before .before .before .before .before .before .before .before .before .before .before .before .before .before .before .args .b .0) (now (c .before .before .before .before .before .before .before .before .before .before .before .before .before .before .before .before .before .before .before .before .before .before .before .args .address)) (now (c .before .before .before .before .before .before .before .before .before .before .before .before .before .before .before .before .before .before .before .before .before .before .before .args .«data»))) (stateOf (c .before .before .before .before .before .before .before .before .before .before .before .before .before .before .before .before .before .before .before .before .before .before .before .args .self) (now (c .before .before .before .before .before .before .before .before .before .before .before .before .before .before .before .before .before .before .before .before .before .before .before .args .words)) (now (c .before .before .before .before .before .before .before .before .before .before .before .before .before .before .before .before .before .before .before .before .before .before .before .args .list))) (c .before .before .before .before .before .before .before .before .before .before .before .before .before .before .before .before .assert-row .ensures) (c .before .before .before .before .before .before .before .before .before .before .before .before .before .before .before .if1 .left) ∙ nine-acts (stateOf (c .before .before .before .before .before .before .before .before .before .before .before .before .before .before .before .before .before .before .before .before .before .before .before .args .self) (now (c .before .before .before .before .before .before .before .before .before .before .before .before .before .before .before .before .before .before .before .before .before .before .before .args .words)) (now (c .before .before .before .before .before .before .before .before .before .before .before .before .before .before .before .before .before .before .before .before .before .before .before .args .list))) _ _ (M .is) (c .before .before .before .overflowed .ensures) (H .clears) (c .if2 .taken); sound = λ e. absurd (true≢false e) }
-
-enter-requires : tie.Need-enter-requires
-enter-requires c κs =
-    let p = c .before .before .before .before .before .before .before .before .before .before .before .before .before .before .before .before .before .before .before .before .before .before .before .before .before .before .pre in
-    let H = assert-holds (c .before .before .before .before .before .before .before .before .before .before .before .before .before .before .before .before .before .before .before .before .before .before .before .before .before .before .args .self) (now (c .before .before .before .before .before .before .before .before .before .before .before .before .before .before .before .before .before .before .before .before .before .before .before .before .before .before .args .words)) (now (c .before .before .before .before .before .before .before .before .before .before .before .before .before .before .before .before .before .before .before .before .before .before .before .before .before .before .args .list)) (c .before .before .before .before .before .before .before .before .before .before .before .before .before .before .before .before .before .before .before .before .before .before .before .before .before .before .args .b .0) (now (c .before .before .before .before .before .before .before .before .before .before .before .before .before .before .before .before .before .before .before .before .before .before .before .before .before .before .args .address)) (now (c .before .before .before .before .before .before .before .before .before .before .before .before .before .before .before .before .before .before .before .before .before .before .before .before .before .before .args .«data»)) (c .before .before .before .before .before .before .before .before .before .before .before .before .before .before .before .before .before .before .before .assert-row .ensures) (c .before .before .before .before .before .before .before .before .before .before .before .before .before .before .before .before .before .before .if1 .left) in
-    let M = rw (c .before .before .before .before .before .before .before .before .before .before .before .before .before .before .before .before .before .begin .ensures) at (c .before .before .before .before .before .before .before .before .before .before .before .assert-builds .ensures) in
-    let g = over-left _ (c .before .before .before .before .before .before .before .before .before .before .before .assert-builds .result .store) (c .before .before .before .before .before .before .overflowed .ensures) (c .before .before .before .if2 .left) in
-    rw (g .0) (record { few = H .few; wide = H .wide; sound = M .sound; fits = g .1; more = M .more; control = H .control; unless = M .node; pairs = p .2; nodes = H .looks .nodes; word = p .3; clears = H .entry-clears _ (M .is) ∙ sym (ap (λ (y : Outcome built.Asserted). clearOf (y .words) (c .before .before .before .before .before .before .before .before .before .before .before .before .before .before .before .before .before .before .before .before .before .before .before .before .before .before .args .self .count)) (M .is) ∙ H .clears) })
-
-same-length-5 : tie.Need-same-length-5
-same-length-5 c = search needs
-
-same-length-6 : tie.Need-same-length-6
-same-length-6 c = search needs
-
-returns-3 : tie.Need-returns-3
-unfolding act
-returns-3 c =
-    let H = assert-holds (c .before .before .before .before .before .before .before .before .before .before .before .before .before .before .before .before .before .before .before .before .before .before .before .before .before .before .before .before .before .before .before .args .self) (now (c .before .before .before .before .before .before .before .before .before .before .before .before .before .before .before .before .before .before .before .before .before .before .before .before .before .before .before .before .before .before .before .args .words)) (now (c .before .before .before .before .before .before .before .before .before .before .before .before .before .before .before .before .before .before .before .before .before .before .before .before .before .before .before .before .before .before .before .args .list)) (c .before .before .before .before .before .before .before .before .before .before .before .before .before .before .before .before .before .before .before .before .before .before .before .before .before .before .before .before .before .before .before .args .b .0) (now (c .before .before .before .before .before .before .before .before .before .before .before .before .before .before .before .before .before .before .before .before .before .before .before .before .before .before .before .before .before .before .before .args .address)) (now (c .before .before .before .before .before .before .before .before .before .before .before .before .before .before .before .before .before .before .before .before .before .before .before .before .before .before .before .before .before .before .before .args .«data»)) (c .before .before .before .before .before .before .before .before .before .before .before .before .before .before .before .before .before .before .before .before .before .before .before .before .assert-row .ensures) (c .before .before .before .before .before .before .before .before .before .before .before .before .before .before .before .before .before .before .before .before .before .before .before .if1 .left) in
-    let M = rw (c .before .before .before .before .before .before .before .before .before .before .before .before .before .before .before .before .before .before .before .before .before .before .begin .ensures) at (c .before .before .before .before .before .before .before .before .before .before .before .before .before .before .before .before .assert-builds .ensures) in
-    let g = over-left _ (c .before .before .before .before .before .before .before .before .before .before .before .before .before .before .before .before .assert-builds .result .store) (c .before .before .before .before .before .before .before .before .before .before .before .overflowed .ensures) (c .before .before .before .before .before .before .before .before .if2 .left) in
-    let R = c .before .before .before .before .enter .ensures in
-    record { is = acted (assert (c .before .before .before .before .before .before .before .before .before .before .before .before .before .before .before .before .before .before .before .before .before .before .before .before .before .before .before .before .before .before .before .args .b .0) (now (c .before .before .before .before .before .before .before .before .before .before .before .before .before .before .before .before .before .before .before .before .before .before .before .before .before .before .before .before .before .before .before .args .address)) (now (c .before .before .before .before .before .before .before .before .before .before .before .before .before .before .before .before .before .before .before .before .before .before .before .before .before .before .before .before .before .before .before .args .«data»))) (stateOf (c .before .before .before .before .before .before .before .before .before .before .before .before .before .before .before .before .before .before .before .before .before .before .before .before .before .before .before .before .before .before .before .args .self) (now (c .before .before .before .before .before .before .before .before .before .before .before .before .before .before .before .before .before .before .before .before .before .before .before .before .before .before .before .before .before .before .before .args .words)) (now (c .before .before .before .before .before .before .before .before .before .before .before .before .before .before .before .before .before .before .before .before .before .before .before .before .before .before .before .before .before .before .before .args .list))) (c .before .before .before .before .before .before .before .before .before .before .before .before .before .before .before .before .before .before .before .before .before .before .before .before .assert-row .ensures) (c .before .before .before .before .before .before .before .before .before .before .before .before .before .before .before .before .before .before .before .before .before .before .before .if1 .left) ∙ done-acts (stateOf (c .before .before .before .before .before .before .before .before .before .before .before .before .before .before .before .before .before .before .before .before .before .before .before .before .before .before .before .before .before .before .before .args .self) (now (c .before .before .before .before .before .before .before .before .before .before .before .before .before .before .before .before .before .before .before .before .before .before .before .before .before .before .before .before .before .before .before .args .words)) (now (c .before .before .before .before .before .before .before .before .before .before .before .before .before .before .before .before .before .before .before .before .before .before .before .before .before .before .before .before .before .before .before .args .list))) _ _ (M .is) (c .before .before .before .before .before .before .before .before .before .before .before .overflowed .ensures) (c .before .before .before .before .before .before .before .before .if2 .left) ∙ enter-words (c .before .before .before .before .before .before .before .before .before .before .before .before .before .before .before .before .before .before .before .before .before .before .before .before .before .before .before .before .before .before .before .args .self) (now (c .before .before .before .before .before .before .before .before .before .before .before .before .before .before .before .before .before .before .before .before .before .before .before .before .before .before .before .before .before .before .before .args .words)) _ (now (c .before .before .before .before .before .before .before .before .before .before .before .before .before .before .before .before .before .before .before .before .before .before .before .before .before .before .before .before .before .before .before .args .list)) (c .before .before .before .before .before .before .before .before .before .before .before .before .before .before .before .before .before .before .before .before .before .before .before .before .before .before .before .before .before .before .before .args .b .0) (now (c .before .before .before .before .before .before .before .before .before .before .before .before .before .before .before .before .before .before .before .before .before .before .before .before .before .before .before .before .before .before .before .args .address)) (now (c .before .before .before .before .before .before .before .before .before .before .before .before .before .before .before .before .before .before .before .before .before .before .before .before .before .before .before .before .before .before .before .args .«data»)) _ _ _ (ap (λ (l : List ℕ). clearOf l (c .before .before .before .before .before .before .before .before .before .before .before .before .before .before .before .before .before .before .before .before .before .before .before .before .before .before .before .before .before .before .before .args .self .count)) (g .0) ∙ (ap (λ (y : Outcome built.Asserted). clearOf (y .words) (c .before .before .before .before .before .before .before .before .before .before .before .before .before .before .before .before .before .before .before .before .before .before .before .before .before .before .before .before .before .before .before .args .self .count)) (M .is) ∙ H .clears)) ∙ R .is; sound = R .sound }
+returns c = handed-on (assert (c .before .before .before .before .before .before .before .before .before .before .before .before .before .before .args .b .0) (now (c .before .before .before .before .before .before .before .before .before .before .before .before .before .before .args .address)) (now (c .before .before .before .before .before .before .before .before .before .before .before .before .before .before .args .«data»))) (stateOf (c .before .before .before .before .before .before .before .before .before .before .before .before .before .before .args .self) (now (c .before .before .before .before .before .before .before .before .before .before .before .before .before .before .args .words)) (now (c .before .before .before .before .before .before .before .before .before .before .before .before .before .before .args .list))) (c .assert-result .result .after) _ _ _ (c .assert-result .ensures) (rw (c .before .before .before .before .before .before .before .before .before .fields .ensures) at (c .before .before .before .before .before .assert-on .ensures))
 
 pub assert-on-spec : {M : Type 1} → statement M
 assert-on-spec =
     tie.close
     (tie.spec
-    assert-row-requires
+    fields-requires
+    assert-on-requires
+    assert-result-requires
     same-length
     same-length-2
-    returns
-    begin-requires
-    cast-w
-    mul-word
-    array-borrow-prefix-word
-    slice-aggregate-assert-builds
-    assert-builds-requires
-    overflowed-requires
-    same-length-3
-    same-length-4
-    returns-2
-    enter-requires
-    same-length-5
-    same-length-6
-    returns-3)
+    returns)

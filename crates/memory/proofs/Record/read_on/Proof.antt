@@ -1,18 +1,17 @@
-use Rattle.memory.proofs.ReadLaws.{read-holds}
-use Rattle.memory.proofs.CallLaws.{turned}
-use Rattle.memory.specs.Contract.{stateOf}
-use Rattle.model.specs.Step.{read}
 use denote.Ref.{now}
-use lib.ListN.{length-take}
-use native.Mathlib.Omega.{arith}
-use mathlib.Core.Bool.{true≢false}
-use mathlib.Core.Path.{refl, sym, _∙_}
+use Rattle.memory.proofs.HandLaws.{handed-read-on}
 use borrow.Author.Needs.{needs}
 use Rattle.memory.proofs.Record.read_on.Statement.{statement}
 use Rattle.memory.proofs.Record.read_on.Tie as tie
 
-read-row-requires : tie.Need-read-row-requires
-read-row-requires c κs = search needs
+fields-requires : tie.Need-fields-requires
+fields-requires c κs = search needs
+
+read-on-requires : tie.Need-read-on-requires
+read-on-requires c κs = rw (c .before .before .before .fields .ensures) (c .before .before .before .before .before .before .before .before .before .pre)
+
+read-result-requires : tie.Need-read-result-requires
+read-result-requires c κs = search needs
 
 same-length : tie.Need-same-length
 same-length c = search needs
@@ -21,52 +20,15 @@ same-length-2 : tie.Need-same-length-2
 same-length-2 c = search needs
 
 returns : tie.Need-returns
-returns c = record { is = record { is = turned (read (now (c .before .before .before .before .before .before .before .before .before .args .enable)) (now (c .before .before .before .before .before .before .before .before .before .args .address)) (now (c .before .before .before .before .before .before .before .before .before .args .answer))) (stateOf (c .before .before .before .before .before .before .before .before .before .args .self) (now (c .before .before .before .before .before .before .before .before .before .args .words)) (now (c .before .before .before .before .before .before .before .before .before .args .list))) (c .before .read-row .ensures) (c .if1 .taken); leaves = refl }; sound = λ e. absurd (true≢false e) }
-
-cast-w : tie.Need-cast-w
-cast-w c = search needs
-
-mul-word : tie.Need-mul-word
-mul-word c = search needs
-
-array-borrow-prefix-word : tie.Need-array-borrow-prefix-word
-array-borrow-prefix-word c =
-    let H = read-holds (c .before .before .before .before .before .before .before .before .before .before .before .before .before .args .self) (now (c .before .before .before .before .before .before .before .before .before .before .before .before .before .args .words)) (now (c .before .before .before .before .before .before .before .before .before .before .before .before .before .args .list)) (now (c .before .before .before .before .before .before .before .before .before .before .before .before .before .args .enable)) (now (c .before .before .before .before .before .before .before .before .before .before .before .before .before .args .address)) (now (c .before .before .before .before .before .before .before .before .before .before .before .before .before .args .answer)) (sym (c .before .before .before .before .before .read-row .ensures) ∙ c .before .before .before .before .if1 .left) in
-    omega (arith, H .wide)
-
-slice-aggregate-read-into : tie.Need-slice-aggregate-read-into
-slice-aggregate-read-into c =
-    let H = read-holds (c .before .before .before .before .before .before .before .before .before .before .before .before .before .before .args .self) (now (c .before .before .before .before .before .before .before .before .before .before .before .before .before .before .args .words)) (now (c .before .before .before .before .before .before .before .before .before .before .before .before .before .before .args .list)) (now (c .before .before .before .before .before .before .before .before .before .before .before .before .before .before .args .enable)) (now (c .before .before .before .before .before .before .before .before .before .before .before .before .before .before .args .address)) (now (c .before .before .before .before .before .before .before .before .before .before .before .before .before .before .args .answer)) (sym (c .before .before .before .before .before .before .read-row .ensures) ∙ c .before .before .before .before .before .if1 .left) in
-    simp length-take (omega (arith, H .wide))
-
-read-into-requires : tie.Need-read-into-requires
-read-into-requires c κs =
-    let p = c .before .before .before .before .before .before .before .before .before .before .before .before .before .before .pre in
-    let H = read-holds (c .before .before .before .before .before .before .before .before .before .before .before .before .before .before .args .self) (now (c .before .before .before .before .before .before .before .before .before .before .before .before .before .before .args .words)) (now (c .before .before .before .before .before .before .before .before .before .before .before .before .before .before .args .list)) (now (c .before .before .before .before .before .before .before .before .before .before .before .before .before .before .args .enable)) (now (c .before .before .before .before .before .before .before .before .before .before .before .before .before .before .args .address)) (now (c .before .before .before .before .before .before .before .before .before .before .before .before .before .before .args .answer)) (sym (c .before .before .before .before .before .before .read-row .ensures) ∙ c .before .before .before .before .before .if1 .left) in
-    (sym (c .before .before .before .before .before .before .read-row .ensures) ∙ c .before .before .before .before .before .if1 .left, p .1, simp length-take (omega (arith, H .wide)))
-
-same-length-3 : tie.Need-same-length-3
-same-length-3 c = search needs
-
-same-length-4 : tie.Need-same-length-4
-same-length-4 c = search needs
-
-returns-2 : tie.Need-returns-2
-returns-2 c = search needs
+returns c = handed-read-on (c .before .before .before .before .before .before .before .before .before .before .before .before .before .before .before .args .self) (now (c .before .before .before .before .before .before .before .before .before .before .before .before .before .before .before .args .words)) (now (c .before .before .before .before .before .before .before .before .before .before .before .before .before .before .before .args .list)) (now (c .before .before .before .before .before .before .before .before .before .before .before .before .before .before .before .args .enable)) (now (c .before .before .before .before .before .before .before .before .before .before .before .before .before .before .before .args .address)) (now (c .before .before .before .before .before .before .before .before .before .before .before .before .before .before .before .args .answer)) (c .read-result .result .after) _ _ (c .read-result .result .answer) (c .read-result .ensures _) (rw (c .before .before .before .before .before .before .before .before .before .fields .ensures) at (c .before .before .before .before .before .read-on .ensures))
 
 pub read-on-spec : {M : Type 1} → statement M
 read-on-spec =
     tie.close
     (tie.spec
-    read-row-requires
+    fields-requires
+    read-on-requires
+    read-result-requires
     same-length
     same-length-2
-    returns
-    cast-w
-    mul-word
-    array-borrow-prefix-word
-    slice-aggregate-read-into
-    read-into-requires
-    same-length-3
-    same-length-4
-    returns-2)
+    returns)

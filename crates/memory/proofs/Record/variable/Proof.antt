@@ -1,66 +1,28 @@
-use Rattle.memory.proofs.CallLaws.{turned, acted, nine-acts, done-acts, variable-holds}
-use Rattle.memory.specs.Contract.{recordOf, stateOf}
-use Rattle.conditions.proofs.Promises.{zeros-sound, builds-clear, variable-builds}
-use Rattle.model.specs.Step.{variable, act}
 use denote.Ref.{now}
-use native.Mathlib.Omega.{arith}
-use mathlib.Core.Path.{_∙_}
+use Rattle.model.specs.Step.{variable}
+use Rattle.memory.specs.Contract.{stateOf}
+use Rattle.memory.proofs.HandLaws.{handed-node}
 use borrow.Author.Needs.{needs}
 use Rattle.memory.proofs.Record.variable.Statement.{statement}
 use Rattle.memory.proofs.Record.variable.Tie as tie
 
-variable-row-requires : tie.Need-variable-row-requires
-variable-row-requires c κs = search needs
+fields-requires : tie.Need-fields-requires
+fields-requires c κs = search needs
+
+variable-requires : tie.Need-variable-requires
+variable-requires c κs = search needs
+
+node-result-requires : tie.Need-node-result-requires
+node-result-requires c κs = search needs
 
 same-length : tie.Need-same-length
 same-length c = search needs
 
 returns : tie.Need-returns
-returns c = λ l. turned (variable (c .before .before .before .before .args .v)) (stateOf (c .before .before .before .before .args .self) (now (c .before .before .before .before .args .words)) l) (c .before .variable-row .ensures) (c .if1 .taken)
-
-begin-requires : tie.Need-begin-requires
-begin-requires c κs = search needs
-
-variable-requires : tie.Need-variable-requires
-variable-requires c κs =
-    let H = variable-holds (recordOf (c .before .before .before .before .before .before .before .args .self)) (now (c .before .before .before .before .before .before .before .args .words)) (c .before .before .before .before .before .before .before .args .v) (c .before .before .before .before .variable-row .ensures) (c .before .before .before .if1 .left) in
-    rw (c .begin .ensures) (zeros-sound _ 32768 (H .0), H .1)
-
-overflowed-requires : tie.Need-overflowed-requires
-overflowed-requires c κs =
-    let X = rw (c .before .before .before .before .begin .ensures) at (c .before .before .before .variable .ensures) in
-    omega (arith, X .more, X .sound .standard .room)
-
-same-length-2 : tie.Need-same-length-2
-same-length-2 c = search needs
-
-returns-2 : tie.Need-returns-2
-unfolding act
-returns-2 c =
-    let H = variable-holds (recordOf (c .before .before .before .before .before .before .before .before .before .before .before .before .before .before .before .args .self)) (now (c .before .before .before .before .before .before .before .before .before .before .before .before .before .before .before .args .words)) (c .before .before .before .before .before .before .before .before .before .before .before .before .before .before .before .args .v) (c .before .before .before .before .before .before .before .before .before .before .before .before .variable-row .ensures) (c .before .before .before .before .before .before .before .before .before .before .before .if1 .left) in
-    let X = rw (c .before .before .before .before .before .before .before .before .begin .ensures) at (c .before .before .before .before .before .before .before .variable .ensures) in
-    λ l. acted (variable (c .before .before .before .before .before .before .before .before .before .before .before .before .before .before .before .args .v)) (stateOf (c .before .before .before .before .before .before .before .before .before .before .before .before .before .before .before .args .self) (now (c .before .before .before .before .before .before .before .before .before .before .before .before .before .before .before .args .words)) l) (c .before .before .before .before .before .before .before .before .before .before .before .before .variable-row .ensures) (c .before .before .before .before .before .before .before .before .before .before .before .if1 .left) ∙ nine-acts (stateOf (c .before .before .before .before .before .before .before .before .before .before .before .before .before .before .before .args .self) (now (c .before .before .before .before .before .before .before .before .before .before .before .before .before .before .before .args .words)) l) _ _ (X .is) (c .before .before .before .overflowed .ensures) (builds-clear (variable-builds (H .0) (H .1))) (c .if2 .taken)
-
-same-length-3 : tie.Need-same-length-3
-same-length-3 c = search needs
-
-returns-3 : tie.Need-returns-3
-unfolding act
-returns-3 c =
-    let X = rw (c .before .before .before .before .before .before .before .before .before .begin .ensures) at (c .before .before .before .before .before .before .before .before .variable .ensures) in
-    λ l. acted (variable (c .before .before .before .before .before .before .before .before .before .before .before .before .before .before .before .before .args .v)) (stateOf (c .before .before .before .before .before .before .before .before .before .before .before .before .before .before .before .before .args .self) (now (c .before .before .before .before .before .before .before .before .before .before .before .before .before .before .before .before .args .words)) l) (c .before .before .before .before .before .before .before .before .before .before .before .before .before .variable-row .ensures) (c .before .before .before .before .before .before .before .before .before .before .before .before .if1 .left) ∙ done-acts (stateOf (c .before .before .before .before .before .before .before .before .before .before .before .before .before .before .before .before .args .self) (now (c .before .before .before .before .before .before .before .before .before .before .before .before .before .before .before .before .args .words)) l) _ _ (X .is) (c .before .before .before .before .overflowed .ensures) (c .before .if2 .left)
+returns c =
+    let A = rw (c .before .before .before .before .before .fields .ensures) at (c .before .before .before .variable .ensures) in
+    λ l. handed-node (variable (c .before .before .before .before .before .before .before .args .v)) (stateOf (c .before .before .before .before .before .before .before .args .self) (now (c .before .before .before .before .before .before .before .args .words)) l) (c .node-result .result .after) _ _ _ (c .node-result .ensures) (A l)
 
 pub variable-spec : {M : Type 1} → statement M
 variable-spec =
-    tie.close
-    (tie.spec
-    variable-row-requires
-    same-length
-    returns
-    begin-requires
-    variable-requires
-    overflowed-requires
-    same-length-2
-    returns-2
-    same-length-3
-    returns-3)
+    tie.close (tie.spec fields-requires variable-requires node-result-requires same-length returns)

@@ -1,0 +1,221 @@
+// Assert.
+ghost use mathlib.Core.Path.{_≡_};
+ghost use Prim.Native.Nat.{ℕ, _+_, _*_, _<_, _≤_};
+ghost use lib.ListN.{length};
+ghost use Rattle.conditions.specs.Contract.{Sound};
+ghost use Rattle.model.specs.Access.{Assert};
+ghost use Rattle.model.specs.Rows.{firstRow, assertRows};
+ghost use Rattle.model.specs.Step.{begin, assert};
+ghost use Rattle.model.specs.Frames.{Valid};
+ghost use Rattle.access.specs.Contract.{Nodes, Looks};
+ghost use Rattle.rows.specs.Contract.{recordOf, stateOf, Answers, AnswersOn};
+ghost use Rattle.assert_access.specs.Contract.{assertAnswer, AssertBuiltDid, BeforeEntry, AfterEntry};
+use access::ControlNode;
+use access::ControlPair;
+use conditions::Store;
+use conditions::Table;
+use rows::Fields;
+
+// What an assert builds before its entry, and the store that this left.
+pub struct AssertBuilt {
+    pub store: Store,
+    pub condition: u32,
+    pub unless: u32,
+    pub keep: u32,
+}
+
+// The fields after an assert, the number by which it is refused, or 0, and whether it is kept, where it is not refused.
+pub struct AssertDone {
+    pub after: Fields,
+    pub row: u32,
+    pub kept: bool,
+}
+
+// The row that refuses an assert to a valid memory, or 0.
+fn assert_row(
+    r: Fields,
+    words: &[u32],
+    list: &[u32],
+    b: ControlNode,
+    address: &[u32],
+    data: &[u32],
+) -> u32
+    requires { ⌜ Valid (stateOf r (now words) (now list)) × (length (now address) ≡ 2 * r .n) × (length (now «data») ≡ 2 * r .w) ⌝ }
+    ensures { λ x. ⌜ x ≡ firstRow (assertRows (recordOf r) (now (words .entry)) (now (list .entry)) (b .0) (now (address .entry)) (now («data» .entry))) ⌝ }
+{
+    let k = r.check_row(words, list, b, address, data);
+    if k != 0 {
+        return k;
+    }
+    if rows::apart(words, r.count, b, address, r.n as usize) {
+        0
+    } else {
+        7
+    }
+}
+
+// The assert condition that an assert builds, and what decides whether it is kept; the word is its own.
+fn assert_builds(
+    r: Fields,
+    words: &mut [u32],
+    list: &[u32],
+    table: &mut Table,
+    s: Store,
+    b: ControlNode,
+    address: &[u32],
+    data: &[u32],
+    word: &mut [u32],
+) -> AssertBuilt
+    requires { ⌜ Sound (now words) (now table) s × Looks (r .n) (r .w) (r .entries) (s .count) (now list) (now address) × (length (now word) ≡ 2 * r .w) × (length (now «data») ≡ 2 * r .w) × Nodes (s .count) (now «data») × (b .0 < s .count) × (r .asserted < s .count) ⌝ }
+    ensures { λ x. ⌜ AssertBuiltDid s (now (words .exit)) (now (table .exit)) x (Assert (recordOf r) (now (list .entry)) (b .0) (now (address .entry)) (now («data» .entry)) (now (words .entry)) s) ⌝ }
+{
+    let n = r.n as usize;
+    let w = r.w as usize;
+    let entries = r.entries as usize;
+    let u = access::look(words, table, s, n, w, entries, list, address, word);
+    let x = access::inside(words, table, u, data, word);
+    let v = conditions::not(words, table, x.store, b.0);
+    let y = conditions::or(words, table, v.store, v.node, x.node);
+    let p = conditions::and(words, table, y.store, r.asserted, y.node);
+    let c = access::inside(words, table, p.store, word, data);
+    let z = conditions::and(words, table, c.store, x.node, c.node);
+    let k = conditions::or(words, table, z.store, v.node, z.node);
+    let store = k.store;
+    AssertBuilt {
+        store,
+        condition: p.node,
+        unless: v.node,
+        keep: k.node,
+    }
+}
+
+// An assert that has built its conditions: kept, or entered by its Write.
+fn enter(
+    r: Fields,
+    words: &mut [u32],
+    list: &mut [u32],
+    table: &mut Table,
+    b: ControlNode,
+    address: &[u32],
+    data: &[u32],
+    q: AssertBuilt,
+) -> AssertDone
+    requires { ⌜ BeforeEntry r (now words) (now list) (now table) (b .0) (now address) (now «data») q ⌝ }
+    ensures { λ x. ⌜ AfterEntry r (now (words .entry)) (now (list .entry)) (b .0) (now (address .entry)) (now («data» .entry)) q (x .after) (now (words .exit)) (now (list .exit)) (assertAnswer (x .row) (x .kept)) (now (table .exit)) ⌝ }
+{
+    let mut after = r;
+    after.count = q.store.count;
+    after.asserted = q.condition;
+    if q.keep == 1 {
+        return AssertDone {
+            after,
+            row: 0,
+            kept: true,
+        };
+    }
+    if rows::clear_where(words, r.count, r.list_capacity(list) <= r.entries) {
+        return AssertDone {
+            after: r,
+            row: 8,
+            kept: false,
+        };
+    }
+    let c = ControlPair {
+        h: b,
+        l: ControlNode(q.unless),
+    };
+    let n = r.n as usize;
+    let m = access::write_marks(words, table, q.store, n, c, address);
+    if rows::clear_where(words, r.count, m.store.full) {
+        return AssertDone {
+            after: r,
+            row: 9,
+            kept: false,
+        };
+    }
+    r.append_entry(list, m, address, data);
+    after.count = m.store.count;
+    after.entries = r.entries + 1;
+    AssertDone {
+        after,
+        row: 0,
+        kept: false,
+    }
+}
+
+// An assert to a valid memory: rows 5 to 9, the assert condition, and the entry where it is not kept.
+pub fn assert_on(
+    r: Fields,
+    words: &mut [u32],
+    list: &mut [u32],
+    table: &mut Table,
+    b: ControlNode,
+    address: &[u32],
+    data: &[u32],
+) -> AssertDone
+    requires { ⌜ Valid (stateOf r (now words) (now list)) × Sound (now words) (now table) (begin (recordOf r)) × (length (now address) ≡ 2 * r .n) × (length (now «data») ≡ 2 * r .w) ⌝ }
+    ensures { λ x. ⌜ AnswersOn (assert (b .0) (now (address .entry)) (now («data» .entry))) (stateOf r (now (words .entry)) (now (list .entry))) (stateOf (x .after) (now (words .exit)) (now (list .exit))) (assertAnswer (x .row) (x .kept)) (now (table .exit)) ⌝ }
+{
+    let k = assert_row(r, words, list, b, address, data);
+    if k != 0 {
+        return AssertDone {
+            after: r,
+            row: k,
+            kept: false,
+        };
+    }
+    let s = r.begin();
+    let mut word: [u32; 32] = [0; 32];
+    let w = r.w as usize;
+    let q = assert_builds(
+        r,
+        words,
+        list,
+        table,
+        s,
+        b,
+        address,
+        data,
+        &mut word[..2 * w],
+    );
+    if rows::clear_where(words, r.count, q.store.full) {
+        return AssertDone {
+            after: r,
+            row: 9,
+            kept: false,
+        };
+    }
+    enter(r, words, list, table, b, address, data, q)
+}
+
+// Assert(b, a, d).
+pub fn assert(
+    r: Fields,
+    words: &mut [u32],
+    list: &mut [u32],
+    b: ControlNode,
+    address: &[u32],
+    data: &[u32],
+) -> AssertDone
+    ensures { λ x. ⌜ Answers (assert (b .0) (now (address .entry)) (now («data» .entry))) (stateOf r (now (words .entry)) (now (list .entry))) (stateOf (x .after) (now (words .exit)) (now (list .exit))) (assertAnswer (x .row) (x .kept)) ⌝ }
+{
+    let k = r.memory_row(words, list);
+    if k != 0 {
+        return AssertDone {
+            after: r,
+            row: k,
+            kept: false,
+        };
+    }
+    let n = r.n as usize;
+    let w = r.w as usize;
+    if !((address.len() == 2 * n) & (data.len() == 2 * w)) {
+        return AssertDone {
+            after: r,
+            row: 4,
+            kept: false,
+        };
+    }
+    let mut table: Table = [0; 32768];
+    assert_on(r, words, list, &mut table, b, address, data)
+}

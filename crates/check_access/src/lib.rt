@@ -1,0 +1,95 @@
+// Check.
+ghost use mathlib.Core.Path.{_≡_};
+ghost use Prim.Native.Nat.{ℕ, _+_, _*_, _<_, _≤_};
+ghost use lib.ListN.{length};
+ghost use Rattle.conditions.specs.Contract.{Sound, Did};
+ghost use Rattle.model.specs.Access.{Check};
+ghost use Rattle.model.specs.Step.{accepted, begin, check};
+ghost use Rattle.model.specs.Frames.{Valid};
+ghost use Rattle.access.specs.Contract.{Nodes, Looks};
+ghost use Rattle.rows.specs.Contract.{recordOf, stateOf, unlessRefused, Answers, AnswersOn};
+use access::ControlNode;
+use conditions::Built;
+use conditions::Store;
+use conditions::Table;
+use rows::Done;
+use rows::Fields;
+
+// The check condition that a check builds; the word is its own.
+fn check_builds(
+    r: Fields,
+    words: &mut [u32],
+    list: &[u32],
+    table: &mut Table,
+    s: Store,
+    b: ControlNode,
+    address: &[u32],
+    data: &[u32],
+    word: &mut [u32],
+) -> Built
+    requires { ⌜ Sound (now words) (now table) s × Looks (r .n) (r .w) (r .entries) (s .count) (now list) (now address) × (length (now word) ≡ 2 * r .w) × (length (now «data») ≡ 2 * r .w) × Nodes (s .count) (now «data») × (b .0 < s .count) × (r .checked < s .count) ⌝ }
+    ensures { λ x. ⌜ Did s (now (words .exit)) (now (table .exit)) x (Check (recordOf r) (now (list .entry)) (b .0) (now (address .entry)) (now («data» .entry)) (now (words .entry)) s) ⌝ }
+{
+    let n = r.n as usize;
+    let w = r.w as usize;
+    let entries = r.entries as usize;
+    let u = access::look(words, table, s, n, w, entries, list, address, word);
+    let c = access::inside(words, table, u, word, data);
+    let x = conditions::not(words, table, c.store, b.0);
+    let y = conditions::or(words, table, x.store, x.node, c.node);
+    conditions::and(words, table, y.store, r.checked, y.node)
+}
+
+// A check of a valid memory: rows 5 to 9, and the check condition.
+pub fn check_on(
+    r: Fields,
+    words: &mut [u32],
+    list: &[u32],
+    table: &mut Table,
+    b: ControlNode,
+    address: &[u32],
+    data: &[u32],
+) -> Done
+    requires { ⌜ Valid (stateOf r (now words) (now list)) × Sound (now words) (now table) (begin (recordOf r)) × (length (now address) ≡ 2 * r .n) × (length (now «data») ≡ 2 * r .w) ⌝ }
+    ensures { λ x. ⌜ AnswersOn (check (b .0) (now (address .entry)) (now («data» .entry))) (stateOf r (now (words .entry)) (now (list .entry))) (stateOf (x .after) (now (words .exit)) (now (list .entry))) (unlessRefused (x .row) accepted) (now (table .exit)) ⌝ }
+{
+    let k = r.check_row(words, list, b, address, data);
+    if k != 0 {
+        return Done { after: r, row: k };
+    }
+    let s = r.begin();
+    let mut word: [u32; 32] = [0; 32];
+    let w = r.w as usize;
+    let v = check_builds(r, words, list, table, s, b, address, data, &mut word[..2 * w]);
+    if rows::clear_where(words, r.count, v.store.full) {
+        return Done { after: r, row: 9 };
+    }
+    let mut after = r;
+    after.count = v.store.count;
+    after.checked = v.node;
+    Done { after, row: 0 }
+}
+
+// Check(b, a, d).
+pub fn check(
+    r: Fields,
+    words: &mut [u32],
+    list: &[u32],
+    b: ControlNode,
+    address: &[u32],
+    data: &[u32],
+) -> Done
+    ensures { λ x. ⌜ Answers (check (b .0) (now (address .entry)) (now («data» .entry))) (stateOf r (now (words .entry)) (now (list .entry))) (stateOf (x .after) (now (words .exit)) (now (list .entry))) (unlessRefused (x .row) accepted) ⌝ }
+{
+    let k = r.memory_row(words, list);
+    if k != 0 {
+        return Done { after: r, row: k };
+    }
+    let n = r.n as usize;
+    let w = r.w as usize;
+    if !((address.len() == 2 * n) & (data.len() == 2 * w)) {
+        return Done { after: r, row: 4 };
+    }
+    let mut table: Table = [0; 32768];
+    check_on(r, words, list, &mut table, b, address, data)
+}

@@ -1,0 +1,56 @@
+-- The node calls by their rows.
+use mathlib.Core.Path.{_≡_, refl, sym, _∙_}
+use mathlib.Core.Bool.{Bool, true, false, cond, _&&_}
+use mathlib.Core.List.{List, [], _∷_, _++_}
+use Prim.Native.Nat.{ℕ, zero, suc, _<_, _≤_}
+use native.Mathlib.Omega.{arith}
+use lib.ListN.{length}
+use Rattle.conditions.specs.Stores.{Standard, withTerminals}
+use Rattle.conditions.specs.User.{isUser}
+use Rattle.model.specs.Record as model
+use Rattle.model.specs.Rows.{Row, firstRow, row1, row2, variableRows, iteRows, evaluateRows}
+use Rattle.model.specs.Step.{State, accepted, done, freshRecord, freshRows, freshUnless, fresh}
+use Rattle.model.proofs.FactLaws.{names, evaluate-facts, variable-facts, ite-facts, fresh-told}
+use Rattle.rows.proofs.CallLaws.{first-refuses, store-holds}
+use Rattle.node_calls.specs.Contract.{numbered, freshed}
+
+-- Fresh by its row
+fresh-unless : (k : ℕ) (g r : model.Record) (w : List ℕ) → (k ≡ 0 → ⊥) → freshed (freshUnless k g r w) ≡ (numbered k, g, w)
+fresh-unless zero g r w n = absurd (n refl)
+fresh-unless (suc k) g r w n = refl
+
+module _ (g : model.Record) (n w : ℕ) (ws : List ℕ) {k : ℕ} (e : k ≡ freshRows n w ws) where
+  pub fresh-turned : (k ≡ 0 → ⊥) → freshed (fresh g n w ws) ≡ (numbered k, g, ws)
+  unfolding fresh
+  fresh-turned z = rw (← e) (fresh-unless k g (freshRecord n w) ws z)
+
+  pub fresh-done : k ≡ 0 → freshed (fresh g n w ws) ≡ (done accepted, freshRecord n w, withTerminals ws)
+  unfolding fresh
+  fresh-done z = rw (← e, z)
+
+  pub fresh-room : k ≡ 0 → 6 ≤ length ws
+  fresh-room z = fresh-told n w ws .none (sym e ∙ z) .1 .0
+
+-- what the rows of the node calls leave
+module _ (r : model.Record) (w : List ℕ) where
+  -- they are lent no list
+  abbrev s : State
+  s = record { rec = r; words = w; list = [] }
+
+  pub variable-holds : (v : ℕ) {k : ℕ} → k ≡ firstRow (variableRows r w v) → k ≡ 0 → Standard w (r .count) × (v < 64)
+  variable-holds v e z = let F = variable-facts s v (sym e ∙ z) in (F .standard, omega (arith, F .named .1))
+
+  pub ite-holds : (f g h : ℕ) {k : ℕ} → k ≡ firstRow (iteRows r w f g h) → k ≡ 0
+      → Standard w (r .count) × (isUser w (r .count) f ≡ true) × (isUser w (r .count) g ≡ true) × (isUser w (r .count) h ≡ true)
+  ite-holds f g h e z = let F = ite-facts s f g h (sym e ∙ z) in (F .standard, names r w f .so (F .named .0), names r w g .so (F .named .1), names r w h .so (F .named .2))
+
+  pub evaluate-holds : (f : ℕ) {k : ℕ} → k ≡ firstRow (evaluateRows r w f) → k ≡ 0 → Standard w (r .count) × (f < r .count)
+  evaluate-holds f e z = let F = evaluate-facts s f 0 (sym e ∙ z) in (F .standard, F .named)
+
+-- a node call that rows 1 and 2 refuse, or that passes them
+module _ (r : model.Record) (w : List ℕ) (t : Bool) {k : ℕ} (e : k ≡ firstRow ((1, row1 r w) ∷ (2, row2 r w) ∷ [])) where
+  pub store-refuses : (k ≡ 0 → ⊥) → k ≡ firstRow ((1, row1 r w) ∷ (2, row2 r w) ∷ (5, t) ∷ [])
+  store-refuses n = sym (first-refuses ((1, row1 r w) ∷ (2, row2 r w) ∷ []) ((5, t) ∷ []) k e n)
+
+  pub store-passes : k ≡ 0 → firstRow ((1, row1 r w) ∷ (2, row2 r w) ∷ (5, t) ∷ []) ≡ cond t 0 5
+  store-passes z = let Q = store-holds r w e z in rw (Q .0, Q .1)

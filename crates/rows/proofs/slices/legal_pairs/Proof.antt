@@ -1,0 +1,79 @@
+use mathlib.Core.Path.{_≡_, refl, ap}
+use mathlib.Core.Bool.{Bool, not}
+use Prim.Native.Nat.{ℕ, _-_}
+use native.Mathlib.Omega.{arith}
+use lib.ListN.{getD}
+use Rattle.nodes.specs.Search.{every}
+use Rattle.nodes.proofs.TestLaws.{every-fails, every-goes-on, every-stops}
+use Rattle.conditions.specs.User.{isUser}
+use Rattle.conditions.specs.Meet.{neither, together}
+use Rattle.model.specs.Record.{hAt, lAt}
+use Rattle.rows.proofs.slices.legal_pairs.Statement.{statement}
+use Rattle.rows.proofs.slices.legal_pairs.Tie as tie
+
+abbrev Inv-loop : tie.InvT-loop
+Inv-loop words count slice k i₀ i = every (λ (i : ℕ). not (neither words (hAt slice i) (lAt slice i))) i (k - i) ≡ every (λ (i : ℕ). not (neither words (hAt slice i) (lAt slice i))) 0 k
+
+abbrev μ-loop : tie.MeasureT-loop
+μ-loop words count slice k i₀ i = k - i
+
+loop-holds : tie.Need-loop-holds Inv-loop μ-loop
+loop-holds c = let z : c .before .before .args .k - 0 ≡ c .before .before .args .k = omega arith in rw z
+
+mul-at : tie.Need-mul-at Inv-loop μ-loop
+mul-at c = omega (arith, c .before .before .before .before .pre)
+
+mul-neither : tie.Need-mul-neither Inv-loop μ-loop
+mul-neither c = omega (arith, c .before .before .before .before .pre)
+
+shared-slice-read-neither : tie.Need-shared-slice-read-neither Inv-loop μ-loop
+shared-slice-read-neither c = omega (arith, c .before .before .before .before .before .pre)
+
+add-neither : tie.Need-add-neither Inv-loop μ-loop
+add-neither c = omega (arith, c .before .before .before .before .before .pre)
+
+mul-neither-2 : tie.Need-mul-neither-2 Inv-loop μ-loop
+mul-neither-2 c = omega (arith, c .before .before .before .before .before .pre)
+
+shared-slice-read-neither-2 : tie.Need-shared-slice-read-neither-2 Inv-loop μ-loop
+shared-slice-read-neither-2 c = omega (arith, c .before .before .before .before .before .before .pre)
+
+neither-requires : tie.Need-neither-requires Inv-loop μ-loop
+neither-requires c κs =
+    let p = c .before .before .before .before .before .before .pre in
+    (p .0, p .3 .at _ (omega arith), p .3 .at _ (omega arith))
+
+returns : tie.Need-returns Inv-loop μ-loop
+returns c = every-fails _ _ _ (c .before .before .before .before .before .loop .inv) (c .before .before .before .before .loop-test .taken) (ap not (c .before .neither .ensures)) (ap (λ (x : Bool). not (not x)) (c .if1 .taken))
+
+add-i : tie.Need-add-i Inv-loop μ-loop
+add-i c = omega (arith, c .before .before .before .before .before .before .before .before .pre)
+
+loop-less : tie.Need-loop-less Inv-loop μ-loop
+loop-less c = omega arith
+
+loop-again : tie.Need-loop-again Inv-loop μ-loop
+loop-again c = every-goes-on _ _ _ (c .before .before .before .before .before .loop .inv) (c .before .before .before .before .loop-test .taken) (ap not (c .before .neither .ensures)) (ap (λ (x : Bool). not (not x)) (c .if1 .left))
+
+returns-2 : tie.Need-returns-2 Inv-loop μ-loop
+returns-2 c = every-stops _ _ _ (c .before .loop .inv) (c .loop-test .left)
+
+pub legal-pairs-spec : {M : Type 1} → statement M
+legal-pairs-spec =
+    tie.close
+    (tie.spec
+    Inv-loop
+    μ-loop
+    loop-holds
+    mul-at
+    mul-neither
+    shared-slice-read-neither
+    add-neither
+    mul-neither-2
+    shared-slice-read-neither-2
+    neither-requires
+    returns
+    add-i
+    loop-less
+    loop-again
+    returns-2)

@@ -1,0 +1,84 @@
+use mathlib.Core.Path.{refl}
+use mathlib.Core.Bool.{_&&_}
+use Prim.Native.Nat.{_*_}
+use lib.Dec.{eqb}
+use lib.ListN.{length, drop}
+use borrow.Author.Tests.{eqb-true, not-true, not-false}
+use denote.Ref.{now}
+use Rattle.conditions.proofs.Promises.{zeros-sound}
+use Rattle.model.specs.Rows.{writeRows}
+use Rattle.model.specs.Step.{write}
+use Rattle.model.proofs.FactLaws.{and3}
+use Rattle.rows.specs.Contract.{recordOf, stateOf}
+use Rattle.rows.proofs.CallLaws.{memory-turned, lengths-turned, memory-valid, valid-standard}
+use borrow.Author.Needs.{needs}
+use Rattle.write_access.proofs.write.Statement.{statement}
+use Rattle.write_access.proofs.write.Tie as tie
+
+memory-row-requires : tie.Need-memory-row-requires
+memory-row-requires c κs = search needs
+
+same-length : tie.Need-same-length
+same-length c = search needs
+
+same-length-2 : tie.Need-same-length-2
+same-length-2 c = search needs
+
+returns : tie.Need-returns
+returns c = memory-turned (write (now (c .before .before .before .before .before .before .before .before .before .args .enable)) (now (c .before .before .before .before .before .before .before .before .before .args .address)) (now (c .before .before .before .before .before .before .before .before .before .args .«data»))) (stateOf (c .before .before .before .before .before .before .before .before .before .args .r) (now (c .before .before .before .before .before .before .before .before .before .args .words)) (now (c .before .before .before .before .before .before .before .before .before .args .list))) (drop 3 (writeRows (recordOf (c .before .before .before .before .before .before .before .before .before .args .r)) (now (c .before .before .before .before .before .before .before .before .before .args .words)) (now (c .before .before .before .before .before .before .before .before .before .args .list)) (now (c .before .before .before .before .before .before .before .before .before .args .enable)) (now (c .before .before .before .before .before .before .before .before .before .args .address)) (now (c .before .before .before .before .before .before .before .before .before .args .«data»)))) refl _ (c .before .memory-row .ensures) (c .if1 .taken)
+
+cast-n : tie.Need-cast-n
+cast-n c = search needs
+
+cast-w : tie.Need-cast-w
+cast-w c = search needs
+
+mul-if2 : tie.Need-mul-if2
+mul-if2 c = search needs
+
+mul-if2-2 : tie.Need-mul-if2-2
+mul-if2-2 c = search needs
+
+same-length-3 : tie.Need-same-length-3
+same-length-3 c = search needs
+
+same-length-4 : tie.Need-same-length-4
+same-length-4 c = search needs
+
+returns-2 : tie.Need-returns-2
+returns-2 c = lengths-turned (write (now (c .before .before .before .before .before .before .before .before .before .before .before .before .args .enable)) (now (c .before .before .before .before .before .before .before .before .before .before .before .before .args .address)) (now (c .before .before .before .before .before .before .before .before .before .before .before .before .args .«data»))) (stateOf (c .before .before .before .before .before .before .before .before .before .before .before .before .args .r) (now (c .before .before .before .before .before .before .before .before .before .before .before .before .args .words)) (now (c .before .before .before .before .before .before .before .before .before .before .before .before .args .list))) ((eqb (length (now (c .before .before .before .before .before .before .before .before .before .before .before .before .args .enable))) 2) && (eqb (length (now (c .before .before .before .before .before .before .before .before .before .before .before .before .args .address))) (2 * c .before .before .before .before .before .before .before .before .before .before .before .before .args .r .n)) && (eqb (length (now (c .before .before .before .before .before .before .before .before .before .before .before .before .args .«data»))) (2 * c .before .before .before .before .before .before .before .before .before .before .before .before .args .r .w))) (drop 4 (writeRows (recordOf (c .before .before .before .before .before .before .before .before .before .before .before .before .args .r)) (now (c .before .before .before .before .before .before .before .before .before .before .before .before .args .words)) (now (c .before .before .before .before .before .before .before .before .before .before .before .before .args .list)) (now (c .before .before .before .before .before .before .before .before .before .before .before .before .args .enable)) (now (c .before .before .before .before .before .before .before .before .before .before .before .before .args .address)) (now (c .before .before .before .before .before .before .before .before .before .before .before .before .args .«data»)))) refl (memory-valid (stateOf (c .before .before .before .before .before .before .before .before .before .before .before .before .args .r) (now (c .before .before .before .before .before .before .before .before .before .before .before .before .args .words)) (now (c .before .before .before .before .before .before .before .before .before .before .before .before .args .list))) (c .before .before .before .before .memory-row .ensures) (c .before .before .before .if1 .left)) (not-true ((eqb (length (now (c .before .before .before .before .before .before .before .before .before .before .before .before .args .enable))) 2) && (eqb (length (now (c .before .before .before .before .before .before .before .before .before .before .before .before .args .address))) (2 * c .before .before .before .before .before .before .before .before .before .before .before .before .args .r .n)) && (eqb (length (now (c .before .before .before .before .before .before .before .before .before .before .before .before .args .«data»))) (2 * c .before .before .before .before .before .before .before .before .before .before .before .before .args .r .w))) (c .if2 .taken))
+
+write-on-requires : tie.Need-write-on-requires
+write-on-requires c κs =
+    let K = memory-valid (stateOf (c .before .before .before .before .before .before .before .before .before .before .before .before .before .before .before .args .r) (now (c .before .before .before .before .before .before .before .before .before .before .before .before .before .before .before .args .words)) (now (c .before .before .before .before .before .before .before .before .before .before .before .before .before .before .before .args .list))) (c .before .before .before .before .before .before .before .memory-row .ensures) (c .before .before .before .before .before .before .if1 .left) in
+    let L = and3 (eqb (length (now (c .before .before .before .before .before .before .before .before .before .before .before .before .before .before .before .args .enable))) 2) (eqb (length (now (c .before .before .before .before .before .before .before .before .before .before .before .before .before .before .before .args .address))) (2 * c .before .before .before .before .before .before .before .before .before .before .before .before .before .before .before .args .r .n)) (eqb (length (now (c .before .before .before .before .before .before .before .before .before .before .before .before .before .before .before .args .«data»))) (2 * c .before .before .before .before .before .before .before .before .before .before .before .before .before .before .before .args .r .w)) (not-false ((eqb (length (now (c .before .before .before .before .before .before .before .before .before .before .before .before .before .before .before .args .enable))) 2) && (eqb (length (now (c .before .before .before .before .before .before .before .before .before .before .before .before .before .before .before .args .address))) (2 * c .before .before .before .before .before .before .before .before .before .before .before .before .before .before .before .args .r .n)) && (eqb (length (now (c .before .before .before .before .before .before .before .before .before .before .before .before .before .before .before .args .«data»))) (2 * c .before .before .before .before .before .before .before .before .before .before .before .before .before .before .before .args .r .w))) (c .before .before .before .if2 .left)) in
+    (K, zeros-sound _ 32768 (valid-standard (stateOf (c .before .before .before .before .before .before .before .before .before .before .before .before .before .before .before .args .r) (now (c .before .before .before .before .before .before .before .before .before .before .before .before .before .before .before .args .words)) (now (c .before .before .before .before .before .before .before .before .before .before .before .before .before .before .before .args .list))) K), eqb-true _ _ (L .0), eqb-true _ _ (L .1), eqb-true _ _ (L .2))
+
+same-length-5 : tie.Need-same-length-5
+same-length-5 c = search needs
+
+same-length-6 : tie.Need-same-length-6
+same-length-6 c = search needs
+
+returns-3 : tie.Need-returns-3
+returns-3 c = search needs
+
+pub write-spec : {M : Type 1} → statement M
+write-spec =
+    tie.close
+    (tie.spec
+    memory-row-requires
+    same-length
+    same-length-2
+    returns
+    cast-n
+    cast-w
+    mul-if2
+    mul-if2-2
+    same-length-3
+    same-length-4
+    returns-2
+    write-on-requires
+    same-length-5
+    same-length-6
+    returns-3)
