@@ -1,4 +1,4 @@
--- The definitions by which an example of building or of a row is computed.
+-- For examples that are computed, as the rulings are: the definitions by which a program builds and a row is tested.
 use Rattle.nodes.specs.Words.{hasWords}
 use Rattle.nodes.specs.Search.{seek, every}
 use Rattle.nodes.specs.Standard.{counted, terminals, childFits, shaped, lowest, first, isStandard}
@@ -11,7 +11,7 @@ use Rattle.conditions.specs.Ite.{plainOf, iteBy, iteUpTo, Ite}
 use Rattle.conditions.specs.Any.{stopOf, anyBy, anyUpTo, Any}
 use Rattle.conditions.specs.User.{isUser}
 
--- who unfolds this unfolds them all
+-- to unfold this is to unfold them all
 unfoldable pub computing : Unit {0}
 unfolding
     hasWords seek every counted terminals childFits shaped lowest first isStandard zeroed clearOf

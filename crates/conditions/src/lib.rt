@@ -12,7 +12,6 @@ ghost use Rattle.conditions.specs.User.{isUser};
 pub use diagrams::evaluate;
 pub use meets::neither;
 pub use meets::together;
-pub use nodes::capacity;
 pub use nodes::clear;
 pub use nodes::is_standard;
 pub use nodes::store_terminals;

@@ -2,7 +2,7 @@ use Prim.Native.Nat.{_-_}
 use native.Mathlib.Omega.{arith}
 use lib.ListN.{length, getD}
 use Rattle.model.specs.Access.{insideHalf, Inside}
-use Rattle.access.proofs.LoopLaws.{Loop, loop-begins, loop-goes-on, loop-did}
+use Rattle.addresses.proofs.LoopLaws.{Loop, loop-begins, loop-goes-on, loop-did}
 use Rattle.access.proofs.inside.Statement.{statement}
 use Rattle.access.proofs.inside.Tie as tie
 

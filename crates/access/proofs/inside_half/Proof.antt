@@ -1,6 +1,5 @@
-use native.Mathlib.Omega.{arith}
-use Rattle.conditions.proofs.Promises.{next-is}
 use Rattle.model.specs.Access.{insideHalf}
+use Rattle.addresses.proofs.LoopLaws.{then-did}
 use borrow.Author.Needs.{needs}
 use Rattle.access.proofs.inside_half.Statement.{statement}
 use Rattle.access.proofs.inside_half.Tie as tie
@@ -19,11 +18,7 @@ same-length c = search needs
 
 returns : tie.Need-returns
 unfolding insideHalf
-returns c =
-    let x0 = c .before .before .before .before .before .before .before .before .before .before .before .before .not .ensures in
-    let x1 = c .before .before .before .before .before .before .before .or .ensures in
-    let x2 = c .before .before .and .ensures in
-    record { is = next-is _ (x0 .is) (next-is _ (x1 .is) (x2 .is)); sound = x2 .sound; more = omega (arith, x0 .more, x1 .more, x2 .more); node = x2 .node }
+returns c = then-did _ (c .before .before .before .before .before .before .before .before .before .before .before .before .not .ensures) (then-did _ (c .before .before .before .before .before .before .before .or .ensures) (c .before .before .and .ensures))
 
 pub inside-half-spec : {M : Type 1} → statement M
 inside-half-spec = tie.close (tie.spec not-requires or-requires and-requires same-length returns)

@@ -1,8 +1,8 @@
 use Prim.Native.Nat.{_-_}
 use native.Mathlib.Omega.{arith}
-use lib.ListN.{length, getD, length-set}
+use lib.ListN.{length}
 use Rattle.model.specs.Access.{halfStep, EachHalf, maskHalf}
-use Rattle.access.proofs.LoopLaws.{WordLoop, word-begins, word-goes-on, word-did, half-did}
+use Rattle.addresses.proofs.LoopLaws.{WordLoop, word-begins, word-did, half-goes-on}
 use Rattle.access.proofs.mask.Statement.{statement}
 use Rattle.access.proofs.mask.Tie as tie
 
@@ -17,17 +17,17 @@ loop-holds c =
     let p = c .before .before .pre in
     word-begins (p .0) (p .2)
 
-mul-ite : tie.Need-mul-ite Inv-loop μ-loop
-mul-ite c = omega (arith, c .before .before .before .loop .inv .size)
+mul-t9 : tie.Need-mul-t9 Inv-loop μ-loop
+mul-t9 c = omega (arith, c .before .before .before .loop .inv .size)
 
-slice-read-ite : tie.Need-slice-read-ite Inv-loop μ-loop
-slice-read-ite c = omega (arith, c .before .before .before .before .loop .inv .size)
+slice-read-t15 : tie.Need-slice-read-t15 Inv-loop μ-loop
+slice-read-t15 c = omega (arith, c .before .before .before .before .loop .inv .size)
 
-ite-requires : tie.Need-ite-requires Inv-loop μ-loop
-ite-requires c κs =
+mask-half-requires : tie.Need-mask-half-requires Inv-loop μ-loop
+mask-half-requires c κs =
     let p = c .before .before .before .before .before .before .before .pre in
     let L = c .before .before .before .before .loop .inv in
-    (L .sound, omega (arith, p .1, L .more), L .nodes .at (c .before .before .before .before .loop .k) (omega (arith, L .size)), omega (arith, L .sound .standard .two))
+    (L .sound, omega (arith, p .1, L .more), L .nodes .at (c .before .before .before .before .loop .k) (omega (arith, L .size)))
 
 mul-word : tie.Need-mul-word Inv-loop μ-loop
 mul-word c = omega (arith, c .before .before .before .before .before .before .before .before .loop .inv .size)
@@ -44,7 +44,7 @@ loop-less c = omega (arith, c .before .before .before .before .before .before .b
 loop-again : tie.Need-loop-again Inv-loop μ-loop
 loop-again c =
     let L = c .before .before .before .before .before .before .before .before .loop .inv in
-    word-goes-on L (omega (arith, L .size)) (c .before .before .before .ite .kept .0) (simp length-set) (half-did (λ j. maskHalf (c .before .before .before .before .before .before .before .before .before .before .before .args .e)) _ (c .before .before .before .before .before .before .before .before .loop .k) (L .nodes) (c .before .before .before .ite .ensures))
+    half-goes-on _ L (omega (arith, L .size)) (c .before .before .before .mask-half .kept .0) (c .before .before .before .mask-half .ensures)
 
 same-length : tie.Need-same-length Inv-loop μ-loop
 same-length c = c .before .loop .inv .len
@@ -63,9 +63,9 @@ mask-spec =
     Inv-loop
     μ-loop
     loop-holds
-    mul-ite
-    slice-read-ite
-    ite-requires
+    mul-t9
+    slice-read-t15
+    mask-half-requires
     mul-word
     slice-write-word
     add-k

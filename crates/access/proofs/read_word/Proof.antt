@@ -2,7 +2,7 @@ use mathlib.Core.Path.{_∙_}
 use native.Mathlib.Omega.{arith}
 use Rattle.conditions.proofs.Promises.{next-is}
 use Rattle.model.specs.Access.{Read}
-use Rattle.access.proofs.LoopLaws.{more-nodes}
+use Rattle.addresses.proofs.LoopLaws.{more-nodes}
 use borrow.Author.Needs.{needs}
 use Rattle.access.proofs.read_word.Statement.{statement}
 use Rattle.access.proofs.read_word.Tie as tie
