@@ -1,6 +1,6 @@
 // The run of a case file: one call reads its sections and accesses, does and prints them in turn.
 ghost use mathlib.Core.Path.{_≡_};
-ghost use Rattle.casefile.specs.Case.{caseOf};
+ghost use Rattle.cases.specs.Case.{caseOf};
 ghost use Rattle.casefile.specs.Contract.{caseAs};
 
 mod accesses;
@@ -8,20 +8,6 @@ mod calls;
 mod zeros;
 
 use memory::Record;
-use text::Text;
-
-// A case between two accesses: the memory, the text so far, and the byte with which the next access begins.
-pub struct Run {
-    pub memory: Record,
-    pub text: Text,
-    pub at: usize,
-}
-
-// After an access the case goes on, or is refused by this number.
-pub enum Step {
-    On(Run),
-    Refused(u32),
-}
 
 // The text length and the last record; or a refusal's number, and how many accesses were printed before.
 pub enum CaseAnswer {

@@ -1,4 +1,4 @@
-use Rattle.casefile.proofs.CaseLaws.{done-fits}
+use Rattle.casefile.proofs.FitLaws.{done-fits}
 use native.Mathlib.Omega.{arith}
 use borrow.Author.Needs.{needs}
 use Rattle.memcase.proofs.main.Statement.{statement}
