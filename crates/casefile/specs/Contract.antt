@@ -3,9 +3,10 @@ use mathlib.Core.Path.{_≡_}
 use mathlib.Core.Bool.{false}
 use mathlib.Core.List.{List}
 use Prim.Native.Nat.{ℕ}
+use Rattle.text.specs.declared.Text.{Text}
 use Rattle.text.specs.Text.{out}
 use Rattle.memory.specs.Contract.{recordOf, stateOf}
-use Rattle.cases.specs.Case.{Ended, ended, stopped, Answered, accepts, refuses, Case, last}
+use Rattle.cases.specs.Case.{Ended, ended, stopped, Answered, accepts, refuses, Case, last, Output}
 use Rattle.entering.specs.declared.Run.{Run}
 use Rattle.entering.specs.Contract.{runningOf}
 use Rattle.casefile.specs.declared.CaseAnswer.{CaseAnswer}
@@ -23,6 +24,10 @@ endedOf (answer.Refused number after) w l b = stopped number after
 
 abbrev pub caseAs : CaseAnswer → List ℕ → List ℕ → List ℕ → Case
 caseAs r w l b = record { answer = answered r; words = w; list = l; text = b }
+
+-- a case as it is printed, with node words, list and text bytes
+abbrev pub outputAs : Text → List ℕ → List ℕ → List ℕ → Output
+outputAs t w l b = record { text = out b t; words = w; list = l }
 
 -- the last line, whatever node words and list are
 abbrev pub Finishes : CaseAnswer → List ℕ → List ℕ → ℕ → Run → List ℕ → Type 0

@@ -4,3 +4,6 @@ pub mod WayLaws
 pub mod CaseLaws
 pub mod AcceptedLaws
 pub mod RefusedLaws
+pub mod PrintLaws
+pub mod NumberLaws
+pub mod ExampleLaws

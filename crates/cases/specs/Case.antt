@@ -3,9 +3,9 @@ use mathlib.Core.Bool.{true, false, cond}
 use mathlib.Core.List.{List, []}
 use Prim.Native.Nat.{ℕ, zero, suc, _+_, _*_}
 use lib.Dec.{ltb}
-use lib.ListN.{length, getD, replicate}
+use lib.ListN.{length, getD, take, replicate}
 use Rattle.text.specs.Text.{Out, growing, appended}
-use Rattle.lines.specs.Lines.{writeLine, readLine, assertLine, checkLine, endLine}
+use Rattle.lines.specs.Lines.{writeLine, readLine, assertLine, checkLine, endLine, refusedLine}
 use Rattle.model.specs.Record.{Record, part}
 use Rattle.model.specs.Step.{State, Call, write, read, assert, check, evaluate, Answer, place, filled, entered, kept, accepted, valued, node, step}
 use Rattle.model.specs.Step as step
@@ -130,3 +130,21 @@ closed words list text (stopped r k) = record { answer = refuses r k; words = ze
 
 unfoldable pub caseOf : List ℕ → List ℕ → List ℕ → List ℕ → Case
 caseOf file words list text = closed words list text (whole file words list text)
+
+-- "A refused case .. `memcase` then prints only `refused R after K`"; of an accepted one it prints the text: what is printed of a case, in its text buffer
+abbrev pub shown : Answered → List ℕ → Out
+shown (accepts k r) text = growing text k
+shown (refuses number after) text = appended (refusedLine number after) (growing text 0)
+
+-- what a printed case leaves
+pub record Output : Type 0 where
+  pub text : Out
+  pub words : List ℕ
+  pub list : List ℕ
+
+abbrev pub outputOf : Case → Output
+outputOf c = record { text = shown (c .answer) (c .text); words = c .words; list = c .list }
+
+-- the bytes of a text
+abbrev pub bytesOf : Out → List ℕ
+bytesOf o = take (o .text .at) (o .buffer)

@@ -8,18 +8,18 @@ use lib.Dec.{T}
 use lib.ListN.{length, getD, drop}
 use Rattle.conditions.specs.Value.{value}
 use Rattle.conditions.specs.Assignment.{bitAt}
-use Rattle.lines.specs.Lines.{endLine}
+use Rattle.lines.specs.Lines.{endLine, refusedLine}
 use Rattle.model.specs.Record.{Record}
 use Rattle.model.specs.Step.{State, Call, Answer, refused, isRefused, step, run}
 use Rattle.model.specs.Array.{Run, outcomes, Allowed}
 use Rattle.model.specs.Claims.{events, Exactly}
-use Rattle.reading.specs.Bytes.{numberAt, numbersAt}
+use Rattle.reading.specs.Bytes.{numbersAt}
 use Rattle.reading.specs.Kinds.{sizeOf}
 use Rattle.reading.specs.Accesses.{found, kindAt, nodesAt, endOf, accessAt}
 use Rattle.reading.specs.Accesses as accesses
-use Rattle.reading.specs.Sections.{nodesIn, recordIn, stored, ready, sections}
+use Rattle.reading.specs.Sections.{nodesIn, accessesIn, firstAt, recordIn, stored, ready, sections}
 use Rattle.reading.specs.Sections as sections
-use Rattle.cases.specs.Case.{callOf, lineOf, accepts, refuses, Case, zeroed, caseOf}
+use Rattle.cases.specs.Case.{callOf, lineOf, accepts, refuses, Case, zeroed, caseOf, outputOf, bytesOf}
 
 -- the call whose kind byte stands at a place, for n and w
 abbrev pub callAt : List ℕ → ℕ → ℕ → ℕ → Call
@@ -34,13 +34,6 @@ callsFrom file n w at (suc m) = callAt file n w at ∷ callsFrom file n w (endOf
 unfoldable pub endFrom : List ℕ → ℕ → ℕ → ℕ → ℕ → ℕ
 endFrom file n w at zero = at
 endFrom file n w at (suc m) = endFrom file n w (endOf file at n w) m
-
--- "2-byte count of accesses", and the byte after it
-abbrev pub accessesIn : List ℕ → ℕ
-accessesIn file = numberAt file (4 + 5 * nodesIn file)
-
-abbrev pub firstAt : List ℕ → ℕ
-firstAt file = 4 + 5 * nodesIn file + 2
 
 -- the calls of a file
 abbrev pub callsIn : List ℕ → List Call
@@ -143,6 +136,20 @@ pub record RefusedAfter (file words list text : List ℕ) (number after : ℕ) (
 
 unfoldable pub CaseRefused : Type 0
 CaseRefused = (file words list text : List ℕ) (number after : ℕ) → caseOf file words list text .answer ≡ refuses number after → RefusedAfter file words list text number after (caseOf file words list text)
+
+-- the numbers of refused cases: a case makes its own record and takes the words of an access from the file, so that it never meets 3 or 4
+abbrev pub CaseNumber : ℕ → Type 0
+CaseNumber k = (1 ≤ k) × (k ≤ 13) × (k ≡ 3 → ⊥) × (k ≡ 4 → ⊥)
+
+unfoldable pub RefusedNumbers : Type 0
+RefusedNumbers = (file words list text : List ℕ) (number after : ℕ) → caseOf file words list text .answer ≡ refuses number after → CaseNumber number
+
+-- the bytes that are printed: of an accepted case its lines, of another the one line of its refusal, where the text buffer takes it
+unfoldable pub CasePrints : Type 0
+CasePrints = (file words list text : List ℕ)
+    → ((k : ℕ) (r : Record) → caseOf file words list text .answer ≡ accepts k r → bytesOf (outputOf (caseOf file words list text) .text) ≡ linesOf (callsIn file) (stateIn file words list))
+    × ((number after : ℕ) → caseOf file words list text .answer ≡ refuses number after → length (refusedLine number after) ≤ length text
+    → bytesOf (outputOf (caseOf file words list text) .text) ≡ refusedLine number after)
 
 -- Demand 3 of such a case under one assignment: its reads, and the check condition of the record r that it answered in the node words that it left, are exactly what
 -- the plain runs of its accesses give

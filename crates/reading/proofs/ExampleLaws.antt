@@ -14,7 +14,7 @@ use Rattle.reading.specs.Accesses as accesses
 use Rattle.reading.specs.Accesses.{accessAt, found, goesOn}
 use Rattle.reading.specs.Sections.{withNodes, sections, ready, refused}
 
-abbrev example : List ℕ
+abbrev pub example : List ℕ
 example =
     1 ∷ 1 ∷ 2 ∷ 0 ∷ 8 ∷ 0 ∷ 0 ∷ 1 ∷ 0 ∷ 8 ∷ 1 ∷ 0 ∷ 0 ∷ 0 ∷ 3 ∷ 0
     ∷ 1 ∷ 1 ∷ 0 ∷ 0 ∷ 0 ∷ 2 ∷ 0 ∷ 3 ∷ 0 ∷ 1 ∷ 0 ∷ 0 ∷ 0

@@ -1,5 +1,5 @@
 use Rattle.entering.proofs.WordLaws.{asserted-below}
-use Rattle.entering.proofs.CallLaws.{part-size}
+use Rattle.cases.proofs.CallLaws.{part-size}
 use Rattle.entering.proofs.StepLaws.{answers-as, step-on, step-stop}
 use Rattle.memory.specs.Contract.{assertAnswer}
 use Rattle.cases.specs.Case.{callOf}

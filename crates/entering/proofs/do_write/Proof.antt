@@ -1,5 +1,5 @@
 use Rattle.entering.proofs.StepLaws.{answers-as, step-on, step-stop}
-use Rattle.entering.proofs.CallLaws.{part-size}
+use Rattle.cases.proofs.CallLaws.{part-size}
 use Rattle.memory.specs.Contract.{writeAnswer}
 use Rattle.cases.specs.Case.{callOf}
 use Rattle.text.specs.Text.{out}

@@ -1,5 +1,5 @@
 use Rattle.looking.proofs.ReadLaws.{word-below}
-use Rattle.entering.proofs.CallLaws.{part-size}
+use Rattle.cases.proofs.CallLaws.{part-size}
 use Rattle.looking.proofs.ReadLaws.{read-filled, read-refused}
 use Rattle.entering.proofs.StepLaws.{step-on, step-stop}
 use lib.ListN.{length-replicate}
