@@ -26,10 +26,11 @@
  *   13  text too long for its buffer
  *
  * The least number is answered, but for 8 in an assert, which comes after a 9 that is met before its
- * entry is needed. A refused call leaves the record, the nodes below the count, the list, the answer
- * words and the out-word as they were; after 9, and after 8 in an assert, the node words from the
- * count to capacity are 0. An accepted call changes no older node or entry and no word past the new
- * counts. Any words may be lent: what is no memory is refused, by row 1, 2 or 3.
+ * entry is needed; and md_case answers the number of what it meets first in the file, whatever comes
+ * later. A refused call, but for md_case, leaves the record, the nodes below the count, the list, the
+ * answer words and the out-word as they were; after 9, and after 8 in an assert, the node words from
+ * the count to capacity are 0. An accepted call changes no older node or entry and no word past the
+ * new counts. Any words may be lent: what is no memory is refused, by row 1, 2 or 3.
  *
  * Node capacity is the words divided by 3, rounded down, at most 16,384. List capacity is whole
  * entries of 2 + 2n + 2w words, at most 4,096.
@@ -80,8 +81,9 @@ uint32_t md_write(uint32_t record[MD_RECORD], uint32_t *nodes, size_t nodes_leng
                   const uint32_t *enable, size_t enable_length, const uint32_t *address, size_t address_length,
                   const uint32_t *data, size_t data_length, uint32_t *place);
 
-/* A read under an enable pair: fills 2w answer words, each bit's h before its l, with exactly what
-   plain memories may return; an enable that is not certainly 1 gives all X. Meets 1 to 6 and 9. */
+/* A read under an enable pair: fills 2w answer words, each bit's h before its l. Where the memory is
+   what calls left of md_fresh's, or of a case, they say exactly what plain memories may return; an
+   enable that is not certainly 1 gives all X. Meets 1 to 6 and 9. */
 uint32_t md_read(uint32_t record[MD_RECORD], uint32_t *nodes, size_t nodes_length, const uint32_t *list,
                  size_t list_length, const uint32_t *enable, size_t enable_length, const uint32_t *address,
                  size_t address_length, uint32_t *answer, size_t answer_length);

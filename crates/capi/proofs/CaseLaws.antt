@@ -6,7 +6,7 @@ use Rattle.memory.specs.declared.Record.{Record}
 use Rattle.memory.specs.Contract.{recordOf}
 use Rattle.casefile.specs.declared.CaseAnswer.{CaseAnswer}
 use Rattle.casefile.specs.declared.CaseAnswer.the-variants as answer
-use Rattle.casefile.specs.Case.{Case, caseOf}
+use Rattle.cases.specs.Case.{Case, caseOf}
 use Rattle.casefile.specs.Contract.{answered, caseAs}
 use Rattle.capi.specs.Words.{wordsOf}
 use Rattle.capi.specs.Contract.{leftCase, caseBy, cased}

@@ -3,7 +3,7 @@ use mathlib.Core.Bool.{cond}
 use mathlib.Core.List.{List, []}
 use Prim.Native.Nat.{ℕ}
 use Rattle.model.specs.Step.{Call, evaluate, Answer, refused, place, filled, entered, kept, accepted, valued, node, Result, step, answerWords, Fresh, fresh}
-use Rattle.casefile.specs.Case.{Answered, accepts, refuses, caseOf}
+use Rattle.cases.specs.Case.{Answered, accepts, refuses, caseOf}
 use Rattle.capi.specs.Words.{recordIn, wordsOf, stateIn}
 
 -- "0 for accepted or the row's number"

@@ -1,9 +1,3 @@
-pub mod CallLaws
-pub mod WordLaws
-pub mod StepLaws
 pub mod RestLaws
 pub mod ZeroLaws
-pub mod WayLaws
-pub mod CaseLaws
-pub mod AcceptedLaws
-pub mod RefusedLaws
+pub mod FitLaws

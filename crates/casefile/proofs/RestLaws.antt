@@ -7,7 +7,6 @@ use native.Mathlib.Nat.{sub-zero}
 use native.Mathlib.Numerals.{add-one}
 use native.Mathlib.Omega.{arith}
 use lib.ListN.{length, replicate}
-use borrow.Author.Tests.{lt-ltb, le-ltb}
 use Rattle.text.specs.declared.Text.{Text}
 use Rattle.text.specs.Text.{out, growing, appended}
 use Rattle.lines.specs.Lines.{endLine}
@@ -15,33 +14,25 @@ use Rattle.memory.specs.declared.Record.{Record}
 use Rattle.memory.specs.Contract.{stateOf}
 use Rattle.reading.specs.declared.Kind.{Kind}
 use Rattle.reading.specs.declared.Kind.the-variants as kind
-use Rattle.reading.specs.declared.Access.{Access}
+use Rattle.reading.specs.declared.Progress.{Progress}
 use Rattle.reading.specs.declared.Access.the-variants as access
 use Rattle.reading.specs.Bytes.{numbersAt}
 use Rattle.reading.specs.Kinds.{isKnown, sizeOf}
-use Rattle.reading.specs.Accesses.{Found, foundOf, accessAt}
+use Rattle.reading.specs.Accesses.{Found, foundOf, accessAt, goesOn, Finds}
 use Rattle.reading.specs.declared.Loaded.{Loaded}
 use Rattle.reading.specs.declared.Loaded.the-variants as loaded
 use Rattle.reading.specs.Sections.{Sections, sectionsOf, firstRecord, sections}
 use Rattle.reading.proofs.SectionLaws.{sections-ready, sections-valid}
 use Rattle.conditions.proofs.Promises.{zeros-sound}
-use Rattle.casefile.specs.declared.Run.{Run}
-use Rattle.casefile.specs.declared.Step.{Step}
-use Rattle.casefile.specs.declared.Step.the-variants as steps
+use Rattle.cases.proofs.LastLaws.{last-left, last-printed}
+use Rattle.entering.specs.declared.Run.{Run}
+use Rattle.entering.specs.declared.Step.{Step}
+use Rattle.entering.specs.declared.Step.the-variants as steps
 use Rattle.casefile.specs.declared.CaseAnswer.{CaseAnswer}
 use Rattle.casefile.specs.declared.CaseAnswer.the-variants as answer
-use Rattle.casefile.specs.Case.{Running, stops, callOf, done, doneAs, one, Ended, ended, stopped, lastPrinted, last, after, rest, afterSections, whole, refuses, zeroed, closed, caseOf}
-use Rattle.casefile.specs.Contract.{runningOf, nextOf, endedOf, caseAs, Ready, ReadyNext, StepAs}
-
--- the last line: 12 comes before it
-module _ (file : List ℕ) (k : ℕ) (c : Running) where
-  pub last-left : c .at < length file → last file k c ≡ stopped 12 k
-  unfolding last
-  last-left h = rw (lt-ltb (c .at) (length file) h)
-
-  pub last-printed : length file ≤ c .at → last file k c ≡ lastPrinted (c .state) k (appended (endLine (c .state .rec .entries)) (c .text))
-  unfolding last
-  last-printed h = rw (le-ltb (c .at) (length file) h)
+use Rattle.cases.specs.Case.{Running, stops, callOf, done, doneAs, one, Ended, ended, stopped, lastPrinted, last, after, rest, afterSections, whole, refuses, zeroed, closed, caseOf}
+use Rattle.entering.specs.Contract.{runningOf, nextOf, Ready, ReadyNext, StepAs}
+use Rattle.casefile.specs.Contract.{endedOf, caseAs}
 
 module _ (file : List ℕ) (k : ℕ) (c : Run) (w l b : List ℕ) where
   pub bytes-left : c .at < length file → stopped 12 k ≡ last file k (runningOf c w l b)
@@ -74,25 +65,27 @@ pub rest-none : (file : List ℕ) (n i : ℕ) (c : Running) → n ≤ i → rest
 unfolding rest
 rest-none file n i c h = let e : n - i ≡ 0 = omega arith in rw e
 
--- the access at a place
+-- a known kind is one of the four
 pub unknown-not : {k : Kind} → k ≡ kind.Unknown → isKnown k ≡ true → ⊥
 unknown-not e p = false≢true (sym (ap isKnown e) ∙ p)
 
-module _ (file : List ℕ) (c : Running) {f : Access} where
-  pub one-missing : {k : ℕ} → f ≡ access.Refused k → foundOf f ≡ accessAt file (c .at) (c .state .rec .n) (c .state .rec .w) → stops k ≡ one file c
+-- the access at a place
+module _ (file : List ℕ) (c : Running) (p : Progress) (F : Finds p file (c .at) (c .state .rec .n) (c .state .rec .w)) where
+  pub one-missing : {k : ℕ} → p .access ≡ access.Refused k → stops k ≡ one file c
   unfolding one
-  one-missing e g = ap (λ (x : Found). doneAs file x (c .state) (c .text)) (sym (ap foundOf e) ∙ g)
+  one-missing e = ap (λ (x : Found). doneAs file x (goesOn file (c .at) (c .state .rec .n) (c .state .rec .w)) (c .state) (c .text)) (sym (ap foundOf e) ∙ F .0)
 
-  one-here : {k : Kind} {from next : ℕ} → f ≡ access.Here k from next → foundOf f ≡ accessAt file (c .at) (c .state .rec .n) (c .state .rec .w)
-      → done (callOf k (c .state .rec .n) (c .state .rec .w) (numbersAt file from (sizeOf k (c .state .rec .n) (c .state .rec .w)))) (c .state) next (c .text) ≡ one file c
+  one-here : {k : Kind} {from : ℕ} → p .access ≡ access.Here k from
+      → done (callOf k (c .state .rec .n) (c .state .rec .w) (numbersAt file from (sizeOf k (c .state .rec .n) (c .state .rec .w)))) (c .state) (p .at) (c .text) ≡ one file c
   unfolding one
-  one-here e g = ap (λ (x : Found). doneAs file x (c .state) (c .text)) (sym (ap foundOf e) ∙ g)
+  one-here {k} {from} e =
+      ap (λ (x : Found). doneAs file x (p .at) (c .state) (c .text)) (sym (ap foundOf e) ∙ F .0)
+      ∙ ap (λ (i : ℕ). doneAs file (accessAt file (c .at) (c .state .rec .n) (c .state .rec .w)) i (c .state) (c .text)) (F .1)
 
-  pub step-here : {k : Kind} {from next : ℕ} → f ≡ access.Here k from next → foundOf f ≡ accessAt file (c .at) (c .state .rec .n) (c .state .rec .w)
-      → (size : ℕ) → size ≡ sizeOf k (c .state .rec .n) (c .state .rec .w) → {r : Step} {w l b table : List ℕ}
-      → StepAs r w l b table (done (callOf k (c .state .rec .n) (c .state .rec .w) (numbersAt file from size)) (c .state) next (c .text)) → StepAs r w l b table (one file c)
-  step-here {k} {from} {next} e g size z {r} {w} {l} {b} {table} C =
-      subst (StepAs r w l b table) (ap (λ (i : ℕ). done (callOf k (c .state .rec .n) (c .state .rec .w) (numbersAt file from i)) (c .state) next (c .text)) z ∙ one-here e g) C
+  pub step-here : {k : Kind} {from : ℕ} → p .access ≡ access.Here k from → (size : ℕ) → size ≡ sizeOf k (c .state .rec .n) (c .state .rec .w) → {r : Step} {w l b table : List ℕ}
+      → StepAs r w l b table (done (callOf k (c .state .rec .n) (c .state .rec .w) (numbersAt file from size)) (c .state) (p .at) (c .text)) → StepAs r w l b table (one file c)
+  step-here {k} {from} e size z {r} {w} {l} {b} {table} C =
+      subst (StepAs r w l b table) (ap (λ (i : ℕ). done (callOf k (c .state .rec .n) (c .state .rec .w) (numbersAt file from i)) (c .state) (p .at) (c .text)) z ∙ one-here e) C
 
 -- what the loop over the accesses keeps: i are done, and the rest from here is the rest from the start
 pub record Done (file : List ℕ) (n : ℕ) (x : Ended) (w l table b : List ℕ) (c : Run) (i : ℕ) : Type 0 where

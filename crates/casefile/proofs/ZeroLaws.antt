@@ -6,7 +6,7 @@ use native.Mathlib.Numerals.{add-one}
 use native.Mathlib.Omega.{arith}
 use lib.ListN.{length, set, take, drop, replicate, length-replicate, drop-of-length-le}
 use lib.Seq.{drop-cons, set-at, append-snoc}
-use Rattle.casefile.specs.Case.{zeroed}
+use Rattle.cases.specs.Case.{zeroed}
 
 abbrev zeros : ℕ → List ℕ
 zeros i = replicate i 0
@@ -32,9 +32,3 @@ zeros-more i l {m} h e =
 
 pub zeros-all : (i : ℕ) (l : List ℕ) → i ≡ length l → zerosTo i l ≡ zeroed l
 zeros-all i l e = rw (drop-of-length-le l {i = i} (omega arith), append-nil) (ap (λ (k : ℕ). replicate k 0) e)
-
--- a part of zeros is zeros
-pub zeros-part : (k n : ℕ) → k ≤ n → take k (zeros n) ≡ zeros k
-zeros-part zero n h = refl
-zeros-part (suc k) zero h = absurd (omega arith)
-zeros-part (suc k) (suc n) h = ap (λ (l : List ℕ). 0 ∷ l) (zeros-part k n (omega arith))

@@ -1,3 +1,1 @@
-pub mod Case
 pub mod Contract
-pub mod Claims

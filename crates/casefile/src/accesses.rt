@@ -7,13 +7,14 @@ ghost use Rattle.text.specs.Text.{out};
 ghost use Rattle.reading.specs.Bytes.{numbersAt};
 ghost use Rattle.reading.specs.Kinds.{isKnown, sizeOf};
 ghost use Rattle.memory.specs.Contract.{stateOf};
-ghost use Rattle.casefile.specs.Case.{callOf, done, one, rest, whole};
-ghost use Rattle.casefile.specs.Contract.{runningOf, endedOf, Ready, StepAs, Finishes};
+ghost use Rattle.cases.specs.Case.{callOf, done, one, rest, whole};
+ghost use Rattle.entering.specs.Contract.{runningOf, Ready, StepAs};
+ghost use Rattle.casefile.specs.Contract.{endedOf, Finishes};
 use super::calls;
 use crate::CaseAnswer;
-use crate::Run;
-use crate::Step;
 use conditions::Table;
+use entering::Run;
+use entering::Step;
 use memory::Record;
 use reading::Access;
 use reading::Kind;
@@ -54,13 +55,14 @@ fn do_one(
     let memory = c.memory;
     let text = c.text;
     let found = reading::access_at(file, c.at, memory.n, memory.w);
-    match found {
-        Access::Here { kind, from, next } => {
+    let access = found.access;
+    match access {
+        Access::Here { kind, from } => {
             let size = reading::operands(kind, memory.n, memory.w);
             let here = Run {
                 memory,
                 text,
-                at: next,
+                at: found.at,
             };
             let mut ops: [u32; 50] = [0; 50];
             read_access(

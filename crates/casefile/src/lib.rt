@@ -1,7 +1,9 @@
 // The run of a case file: one call reads its sections and accesses, does and prints them in turn.
 ghost use mathlib.Core.Path.{_≡_};
-ghost use Rattle.casefile.specs.Case.{caseOf};
-ghost use Rattle.casefile.specs.Contract.{caseAs};
+ghost use Prim.Native.Nat.{_≤_};
+ghost use lib.ListN.{length};
+ghost use Rattle.cases.specs.Case.{caseOf, outputOf};
+ghost use Rattle.casefile.specs.Contract.{caseAs, outputAs};
 
 mod accesses;
 mod calls;
@@ -9,19 +11,6 @@ mod zeros;
 
 use memory::Record;
 use text::Text;
-
-// A case between two accesses: the memory, the text so far, and the byte with which the next access begins.
-pub struct Run {
-    pub memory: Record,
-    pub text: Text,
-    pub at: usize,
-}
-
-// After an access the case goes on, or is refused by this number.
-pub enum Step {
-    On(Run),
-    Refused(u32),
-}
 
 // The text length and the last record; or a refusal's number, and how many accesses were printed before.
 pub enum CaseAnswer {
@@ -41,6 +30,23 @@ pub fn run_case(case: &[u8], words: &mut [u32], list: &mut [u32], text: &mut [u8
             zeros::zero_words(list);
             zeros::zero_bytes(text);
             CaseAnswer::Refused { number, after }
+        }
+    }
+}
+
+// A case, and what is to be printed of it as a text in the text buffer: that of an accepted one, or the one line of a refused one.
+pub fn print_case(case: &[u8], words: &mut [u32], list: &mut [u32], text: &mut [u8]) -> Text
+    ensures { λ r. ⌜ outputAs r (now (words .exit)) (now (list .exit)) (now (text .exit)) ≡ outputOf (caseOf (now (case .entry)) (now (words .entry)) (now (list .entry)) (now (text .entry))) ⌝ }
+    ensures within { λ r. ⌜ r .at ≤ length (now (text .exit)) ⌝ }
+{
+    let answer = run_case(case, words, list, text);
+    match answer {
+        CaseAnswer::Done { length, .. } => Text {
+            at: length,
+            full: false,
+        },
+        CaseAnswer::Refused { number, after } => {
+            lines::put_refused(text, Text { at: 0, full: false }, number, after)
         }
     }
 }

@@ -1,6 +1,6 @@
 // Zeros over a whole slice.
 ghost use mathlib.Core.Path.{_≡_};
-ghost use Rattle.casefile.specs.Case.{zeroed};
+ghost use Rattle.cases.specs.Case.{zeroed};
 
 pub fn zero_words(to: &mut [u32])
     ensures { λ _. ⌜ now (to .exit) ≡ zeroed (now (to .entry)) ⌝ }

@@ -12,64 +12,71 @@ use Rattle.model.specs.Rows.{firstRow}
 use Rattle.model.proofs.RowLaws.{rows-hold}
 use Rattle.reading.specs.declared.Kind.{Kind}
 use Rattle.reading.specs.declared.Access.{Access}
-use Rattle.reading.specs.declared.Access.the-variants.{Here}
+use Rattle.reading.specs.declared.Access.the-variants.{Here, Refused}
 use Rattle.reading.specs.Kinds.{isKnown, sizeOf}
-use Rattle.reading.specs.Accesses.{found, refused, foundOf, kindAt, endOf, accessRows, foundUnless, accessAt}
+use Rattle.reading.specs.Accesses.{Found, found, refused, foundOf, nodesAt, kindAt, endOf, accessRows, foundUnless, accessAt, goesOnFrom, Finds}
 use Rattle.reading.proofs.RowLaws.{rows-number}
 
 -- what is known of an access found at a place
-pub record Lies (file : List ℕ) (at n w : ℕ) (kind : Kind) (from next : ℕ) : Type 0 where
+pub record Lies (file : List ℕ) (at n w : ℕ) (kind : Kind) (from : ℕ) : Type 0 where
   pub kind-is : kind ≡ kindAt file at
   pub known : isKnown kind ≡ true
-  pub from-is : from ≡ at + 1
-  pub next-is : next ≡ from + 2 * sizeOf kind n w
-  pub inside : next ≤ length file
-  pub after : at < next
+  pub from-is : from ≡ nodesAt file at
+  pub end-is : from + 2 * sizeOf kind n w ≡ endOf file at n w
+  pub inside : endOf file at n w ≤ length file
+  pub after : at < endOf file at n w
 
 module _ (file : List ℕ) (at n w : ℕ) where
+  -- where none is found, the reading stays
+  stays : {k : ℕ} → refused k ≡ accessAt file at n w → Finds (record { access = Refused k; at = at }) file at n w
+  stays e = (e, ap (λ (x : Found). goesOnFrom x (endOf file at n w) at) e)
+
   -- the tests one after the other, each with what those before it found
-  pub no-kind : length file ≤ at → refused 10 ≡ accessAt file at n w
+  pub no-kind : length file ≤ at → Finds (record { access = Refused 10; at = at }) file at n w
   unfolding accessAt
-  no-kind h = rw (le-ltb at (length file) h)
+  no-kind h = stays (rw (le-ltb at (length file) h))
 
   module _ (h : at < length file) {k : Kind} (e : k ≡ kindAt file at) {b : Bool} (f : b ≡ isKnown k) where
-    pub kind-unknown : not b ≡ true → refused 11 ≡ accessAt file at n w
+    pub kind-unknown : not b ≡ true → Finds (record { access = Refused 11; at = at }) file at n w
     unfolding accessAt
-    kind-unknown u = rw (lt-ltb at (length file) h, ← e, test-fails f u)
+    kind-unknown u = stays (rw (lt-ltb at (length file) h, ← e, test-fails f u))
 
     module _ (u : not b ≡ false) {s : ℕ} (g : s ≡ sizeOf k n w) where
-      pub ends-early : length file - (at + 1) < 2 * s → refused 10 ≡ accessAt file at n w
+      pub ends-early : length file - (at + 1) < 2 * s → Finds (record { access = Refused 10; at = at }) file at n w
       unfolding accessAt
-      ends-early l = rw (lt-ltb at (length file) h, ← e, test-holds f u, ← g, lt-leb (at + 1 + 2 * s) (length file) (omega arith))
+      ends-early l = stays (rw (lt-ltb at (length file) h, ← e, test-holds f u, ← g, lt-leb (at + 1 + 2 * s) (length file) (omega arith)))
 
-      pub stands : 2 * s ≤ length file - (at + 1) → found k (at + 1) (at + 1 + 2 * s) ≡ accessAt file at n w
+      here : 2 * s ≤ length file - (at + 1) → found k (at + 1) ≡ accessAt file at n w
       unfolding accessAt
-      stands l = rw (lt-ltb at (length file) h, ← e, test-holds f u, ← g, le-leb (at + 1 + 2 * s) (length file) (omega arith))
+      here l = rw (lt-ltb at (length file) h, ← e, test-holds f u, ← g, le-leb (at + 1 + 2 * s) (length file) (omega arith))
 
-  pub access-lies : {kind : Kind} {from next : ℕ} → found kind from next ≡ accessAt file at n w → Lies file at n w kind from next
+      pub stands : 2 * s ≤ length file - (at + 1) → Finds (record { access = Here k (at + 1); at = at + 1 + 2 * s }) file at n w
+      stands l =
+          (here l, ap (λ (i : ℕ). at + 1 + 2 * i) (g ∙ ap (λ (x : Kind). sizeOf x n w) e) ∙ ap (λ (x : Found). goesOnFrom x (endOf file at n w) at) (here l))
+
+  pub access-lies : {kind : Kind} {from : ℕ} → found kind from ≡ accessAt file at n w → Lies file at n w kind from
   unfolding accessAt
-  access-lies {kind} {from} {next} e = go (firstRow (accessRows file at n w)) refl e
+  access-lies {kind} {from} e = go (firstRow (accessRows file at n w)) refl e
     where
       k : Kind
       k = kindAt file at
 
-      go : (r : ℕ) → firstRow (accessRows file at n w) ≡ r → found kind from next ≡ foundUnless r (found k (at + 1) (endOf file at n w)) → Lies file at n w kind from next
+      go : (r : ℕ) → firstRow (accessRows file at n w) ≡ r → found kind from ≡ foundUnless r (found k (nodesAt file at)) → Lies file at n w kind from
       go zero q e =
           let Q = rows-hold (accessRows file at n w) refl q in
           let i : kind ≡ k = cc in
-          let f : from ≡ at + 1 = cc in
-          let g : next ≡ endOf file at n w = cc in
+          let f : from ≡ nodesAt file at = cc in
           let z : sizeOf kind n w ≡ sizeOf k n w = ap (λ (x : Kind). sizeOf x n w) i in
           record {
             kind-is = i;
             known = ap isKnown i ∙ Q .1 .0;
             from-is = f;
-            next-is = omega arith;
-            inside = omega (arith, leb-true (endOf file at n w) (length file) (Q .1 .1 .0));
+            end-is = omega arith;
+            inside = leb-true (endOf file at n w) (length file) (Q .1 .1 .0);
             after = omega arith;
           }
       go (suc r) q e = let z : _≡_ {A = ℕ} 0 1 = cc in absurd (omega arith)
 
   -- the same of the function's answer
-  pub access-here : {r : Access} {kind : Kind} {from next : ℕ} → r ≡ Here kind from next → foundOf r ≡ accessAt file at n w → Lies file at n w kind from next
+  pub access-here : {r : Access} {kind : Kind} {from : ℕ} → r ≡ Here kind from → foundOf r ≡ accessAt file at n w → Lies file at n w kind from
   access-here e f = access-lies (ap foundOf (sym e) ∙ f)

@@ -14,7 +14,7 @@ use Rattle.reading.specs.Accesses as accesses
 use Rattle.reading.specs.Accesses.{accessAt, found, goesOn}
 use Rattle.reading.specs.Sections.{withNodes, sections, ready, refused}
 
-abbrev example : List ℕ
+abbrev pub example : List ℕ
 example =
     1 ∷ 1 ∷ 2 ∷ 0 ∷ 8 ∷ 0 ∷ 0 ∷ 1 ∷ 0 ∷ 8 ∷ 1 ∷ 0 ∷ 0 ∷ 0 ∷ 3 ∷ 0
     ∷ 1 ∷ 1 ∷ 0 ∷ 0 ∷ 0 ∷ 2 ∷ 0 ∷ 3 ∷ 0 ∷ 1 ∷ 0 ∷ 0 ∷ 0
@@ -27,23 +27,22 @@ example-sections : sections example (replicate 14 7) ≡ (64 ∷ 0 ∷ 0 ∷ 64 
 unfolding sections withNodes numberAt row1 counted isStandard terminals hasWords shaped childFits first lowest seek every
 example-sections = refl
 
-example-write : (accessAt example 16 1 1 ≡ found Write 17 29) × (numbersAt example 17 6 ≡ 1 ∷ 0 ∷ 2 ∷ 3 ∷ 1 ∷ 0 ∷ [])
+example-write : (accessAt example 16 1 1 ≡ found Write 17) × (numbersAt example 17 6 ≡ 1 ∷ 0 ∷ 2 ∷ 3 ∷ 1 ∷ 0 ∷ [])
 unfolding accessAt kindOf sizeOf numbersAt numberAt
 example-write = (refl, refl)
 
-example-read : (accessAt example 29 1 1 ≡ found Read 30 38) × (numbersAt example 30 4 ≡ 1 ∷ 0 ∷ 0 ∷ 1 ∷ [])
+example-read : (accessAt example 29 1 1 ≡ found Read 30) × (numbersAt example 30 4 ≡ 1 ∷ 0 ∷ 0 ∷ 1 ∷ [])
 unfolding accessAt kindOf sizeOf numbersAt numberAt
 example-read = (refl, refl)
 
--- the last access ends with the file's 49 bytes
-example-check : (accessAt example 38 1 1 ≡ found Check 39 49) × (numbersAt example 39 5 ≡ 1 ∷ 0 ∷ 1 ∷ 1 ∷ 0 ∷ [])
+example-check : (accessAt example 38 1 1 ≡ found Check 39) × (numbersAt example 39 5 ≡ 1 ∷ 0 ∷ 1 ∷ 1 ∷ 0 ∷ [])
 unfolding accessAt kindOf sizeOf numbersAt numberAt
 example-check = (refl, refl)
 
--- from each access the reading goes on to the next; where none stands it stays
-example-goes-on : (goesOn (accessAt example 16 1 1) 16 ≡ 29) × (goesOn (accessAt example 29 1 1) 29 ≡ 38) × (goesOn (accessAt example 49 1 1) 49 ≡ 49)
+-- from each access the reading goes on to the next, and from the last to the file's end; where none stands it stays
+example-goes-on : (goesOn example 16 1 1 ≡ 29) × (goesOn example 29 1 1 ≡ 38) × (goesOn example 38 1 1 ≡ 49) × (goesOn example 49 1 1 ≡ 49)
 unfolding accessAt kindOf sizeOf
-example-goes-on = (refl, refl, refl)
+example-goes-on = (refl, refl, refl, refl)
 
 -- row 1: n=9. Row 2: 5 words. Row 10: an empty file. Row 11: kind 0
 n-nine : sections (9 ∷ 1 ∷ []) [] ≡ ([], refused 1)

@@ -26,7 +26,7 @@ use Rattle.model.proofs.ThirdLaws.{is-third}
 use Rattle.reading.specs.declared.Loaded.{Loaded}
 use Rattle.reading.specs.declared.Loaded.the-variants.{Ready}
 use Rattle.reading.specs.Bytes.{numberAt}
-use Rattle.reading.specs.Sections.{withNodes, Sections, ready, refused, sectionsOf, firstRecord, sectionsUnless, wordsUnless, nodesIn, stored, recordIn, earlyRows, lateRows, sections}
+use Rattle.reading.specs.Sections.{withNodes, Sections, ready, refused, sectionsOf, firstRecord, sectionsUnless, wordsUnless, nodesIn, stored, recordIn, earlyRows, lateRows, sections, nodesEnd, accessesIn, firstAt}
 use Rattle.reading.proofs.RowLaws.{rows-refuse, rows-pass, rows-number}
 
 -- of row 2's tests of the count, what is left for a count from 2 up
@@ -58,7 +58,7 @@ module _ (file : List ℕ) (at : ℕ) (words : List ℕ) where
 -- what is known where the nodes are stored
 pub record Early (file words : List ℕ) : Type 0 where
   pub range : row1 (recordIn file) words ≡ true
-  pub bytes : 4 + 5 * nodesIn file ≤ length file
+  pub bytes : nodesEnd (nodesIn file) ≤ length file
   pub six : 6 ≤ length words
   pub room : (nodesIn file + 2) * 3 ≤ length words
   pub few : nodesIn file + 2 ≤ 16384
@@ -81,15 +81,15 @@ module _ (file words : List ℕ) where
       no-count l = rw (le-leb 2 (length file) h, test-holds range-same u, lt-leb 4 (length file) l)
 
       module _ (l : 4 ≤ length file) {k : ℕ} (ek : k ≡ numberAt file 2) where
-        pub nodes-missing : length file < 4 + 5 * k → 10 ≡ firstRow (earlyRows file words)
-        nodes-missing m = rw (le-leb 2 (length file) h, test-holds range-same u, le-leb 4 (length file) l, ← ek, lt-leb (4 + 5 * k) (length file) m)
+        pub nodes-missing : length file < nodesEnd k → 10 ≡ firstRow (earlyRows file words)
+        nodes-missing m = rw (le-leb 2 (length file) h, test-holds range-same u, le-leb 4 (length file) l, ← ek, lt-leb (nodesEnd k) (length file) m)
 
-        module _ (m : 4 + 5 * k ≤ length file) {c : Bool} (ec : c ≡ counted words (k + 2)) where
+        module _ (m : nodesEnd k ≤ length file) {c : Bool} (ec : c ≡ counted words (k + 2)) where
           pub no-room : c ≡ false → 2 ≡ firstRow (earlyRows file words)
-          no-room o = rw (le-leb 2 (length file) h, test-holds range-same u, le-leb 4 (length file) l, ← ek, le-leb (4 + 5 * k) (length file) m, ← ec, o)
+          no-room o = rw (le-leb 2 (length file) h, test-holds range-same u, le-leb 4 (length file) l, ← ek, le-leb (nodesEnd k) (length file) m, ← ec, o)
 
           pub room : c ≡ true → 0 ≡ firstRow (earlyRows file words)
-          room o = rw (le-leb 2 (length file) h, test-holds range-same u, le-leb 4 (length file) l, ← ek, le-leb (4 + 5 * k) (length file) m, ← ec, o)
+          room o = rw (le-leb 2 (length file) h, test-holds range-same u, le-leb 4 (length file) l, ← ek, le-leb (nodesEnd k) (length file) m, ← ec, o)
 
   pub early-is : firstRow (earlyRows file words) ≡ 0 → Early file words
   early-is e =
@@ -97,7 +97,7 @@ module _ (file words : List ℕ) where
       let C = counted-is words (nodesIn file + 2) (H .1 .1 .1 .1 .0) in
       record {
         range = H .1 .0;
-        bytes = leb-true (4 + 5 * nodesIn file) (length file) (H .1 .1 .1 .0);
+        bytes = leb-true (nodesEnd (nodesIn file)) (length file) (H .1 .1 .1 .0);
         six = C .six;
         room = omega (arith, C .most);
         few = omega (arith, C .most);
@@ -121,23 +121,23 @@ module _ (file words : List ℕ) where
     not-standard u = rw (o, rows-pass (earlyRows file words) (lateRows file words) refl o, test-fails form-same u, ← stored-is)
 
     module _ (u : not b ≡ false) where
-      pub no-accesses : length file - (4 + 5 * k) < 2 → (ws, refused 10) ≡ sections file words
+      pub no-accesses : length file - (nodesEnd k) < 2 → (ws, refused 10) ≡ sections file words
       unfolding sections
-      no-accesses l = rw (o, rows-pass (earlyRows file words) (lateRows file words) refl o, test-holds form-same u, ← stored-is, ← ek, lt-leb (6 + 5 * k) (length file) (omega arith))
+      no-accesses l = rw (o, rows-pass (earlyRows file words) (lateRows file words) refl o, test-holds form-same u, ← stored-is, ← ek, lt-leb (nodesEnd k + 2) (length file) (omega arith))
 
-      pub all-read : 2 ≤ length file - (4 + 5 * k) → {n w m : ℕ} → n ≡ getD file 0 0 → w ≡ getD file 1 0 → m ≡ numberAt file (4 + 5 * k)
-          → (ws, ready n w (k + 2) m (4 + 5 * k + 2)) ≡ sections file words
+      pub all-read : 2 ≤ length file - (nodesEnd k) → {n w m : ℕ} → n ≡ getD file 0 0 → w ≡ getD file 1 0 → m ≡ numberAt file (nodesEnd k)
+          → (ws, ready n w (k + 2) m (nodesEnd k + 2)) ≡ sections file words
       unfolding sections
       all-read l en ew em =
-          rw (o, rows-pass (earlyRows file words) (lateRows file words) refl o, test-holds form-same u, ← stored-is, ← ek, le-leb (6 + 5 * k) (length file) (omega arith), en, ew, em)
+          rw (o, rows-pass (earlyRows file words) (lateRows file words) refl o, test-holds form-same u, ← stored-is, ← ek, le-leb (nodesEnd k + 2) (length file) (omega arith), en, ew, em)
 
 -- what is known of sections that are read
 pub record SectionsRead (file words ws : List ℕ) (n w count accesses at : ℕ) : Type 0 where
   pub n-is : n ≡ getD file 0 0
   pub w-is : w ≡ getD file 1 0
   pub count-is : count ≡ nodesIn file + 2
-  pub accesses-is : accesses ≡ numberAt file (4 + 5 * nodesIn file)
-  pub at-is : at ≡ 4 + 5 * nodesIn file + 2
+  pub accesses-is : accesses ≡ accessesIn file
+  pub at-is : at ≡ firstAt file
   pub words-are : ws ≡ stored file words
   pub range : row1 (firstRecord n w count) ws ≡ true
   pub few : (1 ≤ n) × (n ≤ 8)
@@ -171,7 +171,7 @@ stored-length file words = nodes-length file 4 (withTerminals words) (nodesIn fi
 
 -- sections that no row refuses
 rows-read : (file words : List ℕ) → firstRow (earlyRows file words ++ lateRows file words) ≡ 0
-    → (firstRow (earlyRows file words) ≡ 0) × SectionsRead file words (stored file words) (getD file 0 0) (getD file 1 0) (nodesIn file + 2) (numberAt file (4 + 5 * nodesIn file)) (4 + 5 * nodesIn file + 2)
+    → (firstRow (earlyRows file words) ≡ 0) × SectionsRead file words (stored file words) (getD file 0 0) (getD file 1 0) (nodesIn file + 2) (accessesIn file) (firstAt file)
 rows-read file words q =
     let Q = rows-hold (earlyRows file words ++ lateRows file words) refl q in
     let one = range-words (recordIn file) words (stored file words) (Q .1 .0) in
@@ -188,7 +188,7 @@ rows-read file words q =
         few = R .0;
         wide = R .1;
         standard = standard-is (stored file words) (nodesIn file + 2) (Q .1 .1 .1 .1 .1 .0);
-        inside = omega (arith, leb-true (6 + 5 * nodesIn file) (length file) (Q .1 .1 .1 .1 .1 .1 .0));
+        inside = omega (arith, leb-true (firstAt file) (length file) (Q .1 .1 .1 .1 .1 .1 .0));
         len = stored-length file words;
         past = stored-past file words;
       },
@@ -202,7 +202,7 @@ sections-read file words {ws} {n} {w} {count} {accesses} {at} e = go (firstRow (
     k = nodesIn file
 
     go : (r : ℕ) → firstRow (earlyRows file words ++ lateRows file words) ≡ r
-        → ready n w count accesses at ≡ sectionsUnless r (ready (getD file 0 0) (getD file 1 0) (k + 2) (numberAt file (4 + 5 * k)) (4 + 5 * k + 2))
+        → ready n w count accesses at ≡ sectionsUnless r (ready (getD file 0 0) (getD file 1 0) (k + 2) (numberAt file (nodesEnd k)) (nodesEnd k + 2))
         → ws ≡ wordsUnless (firstRow (earlyRows file words)) (stored file words) words
         → SectionsRead file words ws n w count accesses at
     go zero q f g =
@@ -210,8 +210,8 @@ sections-read file words {ws} {n} {w} {count} {accesses} {at} e = go (firstRow (
         let en : n ≡ getD file 0 0 = cc in
         let ew : w ≡ getD file 1 0 = cc in
         let ec : count ≡ k + 2 = cc in
-        let em : accesses ≡ numberAt file (4 + 5 * k) = cc in
-        let ea : at ≡ 4 + 5 * k + 2 = cc in
+        let em : accesses ≡ numberAt file (nodesEnd k) = cc in
+        let ea : at ≡ nodesEnd k + 2 = cc in
         let es : ws ≡ stored file words = g ∙ ap (λ (r : ℕ). wordsUnless r (stored file words) words) (R .0) in
         rw (en, ew, ec, em, ea, es) (R .1)
     go (suc r) q f g = let z : _≡_ {A = ℕ} 0 1 = cc in absurd (omega arith)

@@ -1,4 +1,5 @@
 -- 01, 'Case file': the access that begins at a place of the file.
+use mathlib.Core.Path.{_≡_}
 use mathlib.Core.List.{List, [], _∷_}
 use Prim.Native.Nat.{ℕ, zero, suc, _+_, _*_}
 use lib.Dec.{ltb, leb}
@@ -7,25 +8,30 @@ use Rattle.model.specs.Rows.{Row, firstRow}
 use Rattle.reading.specs.declared.Kind.{Kind}
 use Rattle.reading.specs.declared.Access.{Access}
 use Rattle.reading.specs.declared.Access.the-variants as access
+use Rattle.reading.specs.declared.Progress.{Progress}
 use Rattle.reading.specs.Kinds.{kindOf, isKnown, sizeOf}
 
--- an access's kind, the byte where its nodes begin, and the byte after it; or a refusal's number
+-- an access's kind, and the byte where its nodes begin; or a refusal's number
 pub data Found : Type 0 where
-  found : Kind → ℕ → ℕ → Found
+  found : Kind → ℕ → Found
   refused : ℕ → Found
 
--- the answer of `access_at`
+-- an access as the functions answer it
 abbrev pub foundOf : Access → Found
-foundOf (access.Here kind from next) = found kind from next
+foundOf (access.Here kind from) = found kind from
 foundOf (access.Refused k) = refused k
 
 -- the kind that the byte at a place selects
 abbrev pub kindAt : List ℕ → ℕ → Kind
 kindAt file at = kindOf (getD file at 0)
 
--- the byte after the access at a place: its kind byte, then "every node 2 bytes"
+-- where the nodes of the access at a place begin: after its kind byte
+abbrev pub nodesAt : List ℕ → ℕ → ℕ
+nodesAt file at = at + 1
+
+-- the byte after the access at a place: "every node 2 bytes"
 abbrev pub endOf : List ℕ → ℕ → ℕ → ℕ → ℕ
-endOf file at n w = at + 1 + 2 * sizeOf (kindAt file at) n w
+endOf file at n w = nodesAt file at + 2 * sizeOf (kindAt file at) n w
 
 -- "Tests follow the file: an unknown kind, then missing bytes of a section or access". Where the kind byte is missing there is no kind to test: 10
 abbrev pub accessRows : List ℕ → ℕ → ℕ → ℕ → List Row
@@ -42,9 +48,17 @@ foundUnless (suc k) x = refused (suc k)
 
 -- the access at a place, for n and w
 unfoldable pub accessAt : List ℕ → ℕ → ℕ → ℕ → Found
-accessAt file at n w = foundUnless (firstRow (accessRows file at n w)) (found (kindAt file at) (at + 1) (endOf file at n w))
+accessAt file at n w = foundUnless (firstRow (accessRows file at n w)) (found (kindAt file at) (nodesAt file at))
+
+-- from the first of two bytes where an access stands, else from the second
+abbrev pub goesOnFrom : Found → ℕ → ℕ → ℕ
+goesOnFrom (found kind from) end at = end
+goesOnFrom (refused k) end at = at
 
 -- "A reading of the case file goes on from the byte after the last access"; where none stands, from where it was
-abbrev pub goesOn : Found → ℕ → ℕ
-goesOn (found kind from next) at = next
-goesOn (refused k) at = at
+abbrev pub goesOn : List ℕ → ℕ → ℕ → ℕ → ℕ
+goesOn file at n w = goesOnFrom (accessAt file at n w) (endOf file at n w) at
+
+-- the answer of `access_at`
+abbrev pub Finds : Progress → List ℕ → ℕ → ℕ → ℕ → Type 0
+Finds p file at n w = (foundOf (p .access) ≡ accessAt file at n w) × (p .at ≡ goesOn file at n w)

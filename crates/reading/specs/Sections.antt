@@ -37,6 +37,17 @@ firstRecord n w count = withCount (freshRecord n w) count
 abbrev pub nodesIn : List ℕ → ℕ
 nodesIn file = numberAt file 2
 
+-- the byte after k nodes
+abbrev pub nodesEnd : ℕ → ℕ
+nodesEnd k = 4 + 5 * k
+
+-- "2-byte count of accesses", and the byte after it
+abbrev pub accessesIn : List ℕ → ℕ
+accessesIn file = numberAt file (nodesEnd (nodesIn file))
+
+abbrev pub firstAt : List ℕ → ℕ
+firstAt file = nodesEnd (nodesIn file) + 2
+
 -- the record of the file
 abbrev pub recordIn : List ℕ → Record
 recordIn file = firstRecord (getD file 0 0) (getD file 1 0) (nodesIn file + 2)
@@ -52,7 +63,7 @@ earlyRows file words =
     (10, leb 2 (length file))
     ∷ (1, row1 (recordIn file) words)
     ∷ (10, leb 4 (length file))
-    ∷ (10, leb (4 + 5 * nodesIn file) (length file))
+    ∷ (10, leb (nodesEnd (nodesIn file)) (length file))
     ∷ (2, counted words (nodesIn file + 2))
     ∷ []
 
@@ -60,7 +71,7 @@ earlyRows file words =
 abbrev pub lateRows : List ℕ → List ℕ → List Row
 lateRows file words =
     (2, row2 (recordIn file) (stored file words))
-    ∷ (10, leb (6 + 5 * nodesIn file) (length file))
+    ∷ (10, leb (firstAt file) (length file))
     ∷ []
 
 -- a refusal by this row, of which 0 is none
@@ -74,8 +85,7 @@ sectionsUnless (suc k) x = refused (suc k)
 
 -- what reading the sections leaves of the node words, and answers
 unfoldable pub sections : List ℕ → List ℕ → List ℕ × Sections
-sections file words =
-    let end = 4 + 5 * nodesIn file in (
-      wordsUnless (firstRow (earlyRows file words)) (stored file words) words,
-      sectionsUnless (firstRow (earlyRows file words ++ lateRows file words)) (ready (getD file 0 0) (getD file 1 0) (nodesIn file + 2) (numberAt file end) (end + 2)),
-    )
+sections file words = (
+  wordsUnless (firstRow (earlyRows file words)) (stored file words) words,
+  sectionsUnless (firstRow (earlyRows file words ++ lateRows file words)) (ready (getD file 0 0) (getD file 1 0) (nodesIn file + 2) (accessesIn file) (firstAt file)),
+)

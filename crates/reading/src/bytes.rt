@@ -17,7 +17,9 @@ pub fn number_at(bytes: &[u8], at: usize) -> u32
     ensures { λ r. ⌜ r ≡ numberAt (now (bytes .entry)) at ⌝ }
     ensures small { λ r. ⌜ r ≤ 65535 ⌝ }
 {
-    wide(bytes[at]) + 256 * wide(bytes[at + 1])
+    let low = wide(bytes[at]);
+    let high = wide(bytes[at + 1]);
+    low + 256 * high
 }
 
 // Fills a slice with the numbers from a place on.

@@ -25,14 +25,16 @@ pub enum Kind {
     Unknown,
 }
 
-// An access in the file: its kind, the byte where its nodes begin, and the byte after it.
+// An access in the file: its kind, and the byte where its nodes begin.
 pub enum Access {
-    Here {
-        kind: Kind,
-        from: usize,
-        next: usize,
-    },
+    Here { kind: Kind, from: usize },
     Refused(u32),
+}
+
+// The access at a place, and the byte from which a reading goes on after it.
+pub struct Progress {
+    pub access: Access,
+    pub at: usize,
 }
 
 // What the sections hold: n, w, the node count, the count of accesses and the byte where they begin.

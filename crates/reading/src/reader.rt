@@ -1,7 +1,8 @@
 // A reading of a case file: a thin struct over the functions on slices.
 ghost use mathlib.Core.Path.{_≡_};
-ghost use Rattle.reading.specs.Accesses.{foundOf, accessAt, goesOn};
+ghost use Rattle.reading.specs.Accesses.{foundOf, accessAt, goesOn, Finds};
 use super::Access;
+use super::Progress;
 use super::accesses;
 
 // The lent bytes, and the byte with which the next access begins.
@@ -25,20 +26,25 @@ pub fn begin<'a>(bytes: &'a [u8], at: usize) -> Reader<'a>
 
 // The next access, for a memory of n address bits and w data bits.
 pub fn next<'a>(r: Reader<'a>, n: u32, w: u32) -> Advance<'a>
-    ensures { λ a. ⌜ (foundOf (a .access) ≡ accessAt (now (r .entry .bytes)) (r .entry .at) n w) × (a .rest .bytes ≡ r .entry .bytes) × (a .rest .at ≡ goesOn (accessAt (now (r .entry .bytes)) (r .entry .at) n w) (r .entry .at)) ⌝ }
+    ensures { λ a. ⌜ (foundOf (a .access) ≡ accessAt (now (r .entry .bytes)) (r .entry .at) n w) × (a .rest .bytes ≡ r .entry .bytes) × (a .rest .at ≡ goesOn (now (r .entry .bytes)) (r .entry .at) n w) ⌝ }
 {
-    let access = accesses::find_access(r.bytes, r.at, n, w);
-    let at = accesses::end_of(access, r.at);
+    let f = accesses::find_access(r.bytes, r.at, n, w);
     Advance {
-        access,
-        rest: Reader { bytes: r.bytes, at },
+        access: f.access,
+        rest: Reader {
+            bytes: r.bytes,
+            at: f.at,
+        },
     }
 }
 
-// The access at a place, by a reading that goes on from there. Over a plain slice: its callers hold no reader.
-pub fn access_at(bytes: &[u8], at: usize, n: u32, w: u32) -> Access
-    ensures { λ r. ⌜ foundOf r ≡ accessAt (now (bytes .entry)) at n w ⌝ }
+// The access at a place, and the reader's own place after it. Over a plain slice: its callers hold no reader.
+pub fn access_at(bytes: &[u8], at: usize, n: u32, w: u32) -> Progress
+    ensures { λ r. ⌜ Finds r (now (bytes .entry)) at n w ⌝ }
 {
     let a = next(begin(bytes, at), n, w);
-    a.access
+    Progress {
+        access: a.access,
+        at: a.rest.at,
+    }
 }

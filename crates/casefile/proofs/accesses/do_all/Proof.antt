@@ -1,6 +1,6 @@
 use Rattle.casefile.proofs.RestLaws.{Done, done-none, done-more, done-stop, done-all}
-use Rattle.casefile.specs.Contract.{runningOf}
-use Rattle.casefile.specs.Case.{rest}
+use Rattle.entering.specs.Contract.{runningOf}
+use Rattle.cases.specs.Case.{rest}
 use lib.ListN.{length}
 use Prim.Native.Nat.{_-_}
 use mathlib.Core.Path.{_≡_, refl}

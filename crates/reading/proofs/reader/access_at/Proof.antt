@@ -1,4 +1,4 @@
--- `reader::access_at` meets its contract: a walk of its code. The Reader that `begin` returns is held in a local and passed to `next`, and of what `next` returns the access is handed on. All that the proof knows of the two is that each meets its contract.
+-- `reader::access_at` meets its contract: a walk of its code. The Reader that `begin` returns is held in a local and passed to `next`, and of what `next` returns the access and the reader's place are handed on. All that the proof knows of the two is that each meets its contract.
 -- In a local of a body the lifetime of a struct's type is erased, so the values are shown to have their types at `erased`: what a struct owns does not say the lifetime's name.
 use mathlib.Core.Path.{_≡_, refl, ap, _∙_}
 use Prim.Native.Nat.{ℕ, _<_, _^_}
@@ -18,7 +18,7 @@ use contract.Lifetimes.{Lfts}
 use contract.Monad.{Fun, fact}
 use contract.Running.{givenOf, tables, tablesOf}
 use types.Kit.{Given, ‵, raw, _⊛_, given, ⋆, some, later, _$_, _∵_, !, qed, by, move, drop, use1, use2, split, join, learn, pick, rewrite, fsplit, fjoin, suffices, frame, await, done}
-use types.Part.{whole, sub, look-in}
+use types.Part.{agg, whole, sub, look-in}
 use types.Run.{look, init, forget, stop, fld, from, load, of-opd, and-then, no-more, assigns, land, returns, enter, alloc1, alloc0, params1, pass1, pass0, free1, free0}
 use sound.WpLaws.{FmC, fmOf, WpFn-mono}
 use denote.RattleType.{RattleType, owns}
@@ -32,7 +32,7 @@ use denote.Steps.{only, owned, peeks, heard, nothing}
 use denote.Enum.Laws as EL
 use denote.Struct.Declared.{Declared}
 use denote.Struct.Laws as LL
-use denote.Struct.Rest.{all-own, ownAt, rest, own-open, own-out}
+use denote.Struct.Rest.{all-own, own-open, own-shut}
 use denote.Struct.Values.{Values}
 use denote.Triple.Statement.{Contract, Triple}
 use denote.Triple.Call.{calls-at}
@@ -42,16 +42,19 @@ use denote.Triple.Table.{entered, cited}
 use denote.Triple.Walked.{says, Stays, stay-none-slice, stay-none, walkOf, goes-none-slice, goes-none, Walks, ends-at, walked, walk-meets}
 use denote.Exit.{yes}
 use denote.Triple.Clauses.{ensured, lasts}
-use Rattle.reading.specs.Accesses.{Found, foundOf, accessAt, goesOn}
+use Rattle.reading.specs.Accesses.{foundOf, accessAt, goesOn, Finds}
 use Rattle.reading.specs.declared.reader.Reader.{Reader}
 use Rattle.reading.specs.declared.reader.Advance.{Advance}
 use Rattle.reading.specs.declared.Access.{Access}
+use Rattle.reading.specs.declared.Progress.{Progress}
 use Rattle.reading.proofs.reader.Reader as T
 use Rattle.reading.proofs.reader.Reader.Laws as T′
 use Rattle.reading.proofs.reader.Advance as P
 use Rattle.reading.proofs.reader.Advance.Laws as P′
 use Rattle.reading.proofs.Access as S
 use Rattle.reading.proofs.Access.Laws as S′
+use Rattle.reading.proofs.Progress as G
+use Rattle.reading.proofs.Progress.Laws as G′
 use Rattle.reading.proofs.reader.begin as begin
 use Rattle.reading.proofs.reader.begin.Symbol as begin-def
 use Rattle.reading.proofs.reader.begin.Symbol.{name as #begin}
@@ -123,7 +126,7 @@ module _ {M : Type 1} (𝓤 : URA M) (H : Heap 𝓤) (A : Atoms 𝓤) (W : Given
 
   -- what `next` promises of its result
   abbrev Said : Reader → Advance → Type 0
-  Said r t = (foundOf (t .access) ≡ accessAt (now (r .bytes)) (r .at) n w) × (t .rest .bytes ≡ r .bytes) × (t .rest .at ≡ goesOn (accessAt (now (r .bytes)) (r .at) n w) (r .at))
+  Said r t = (foundOf (t .access) ≡ accessAt (now (r .bytes)) (r .at) n w) × (t .rest .bytes ≡ r .bytes) × (t .rest .at ≡ goesOn (now (r .bytes)) (r .at) n w)
 
   next-said : (r : Reader) (t : Advance) → ent 𝓤 (ensured 𝓤 H A next.ended (next.clauses 𝓤 H A mem run) (κ, tt) (r, (n, (w, tt))) tt t) (fact 𝓤 (Said r t))
   next-said r t = exE 𝓤 _ (λ ws. snd∗ 𝓤 (sem 𝓤 H A (lasts next.ended (κ, tt) (r, (n, (w, tt))) ws)) (fact 𝓤 (Said r t)))
@@ -138,43 +141,73 @@ module _ {M : Type 1} (𝓤 : URA M) (H : Heap 𝓤) (A : Atoms 𝓤) (W : Given
   abbrev vt : Advance → Values (D .parts)
   vt t = (t .access, (t .rest, tt))
 
-  abbrev resultVal : Advance → Val
-  resultVal t = vstruct (vcons (va (t .access)) (vcons (LL.val (T.the-type α) (T′.the-laws α) (t .rest)) vnil))
+  -- its rest is a Reader, whose values are
+  abbrev vr : Advance → Values (T.the-type α .parts)
+  vr t = (t .rest .bytes, (t .rest .at, tt))
 
-  exits : (x : Access) → pos < 2 ^ 64 → n < 2 ^ 32 → w < 2 ^ 32 → foundOf x ≡ accessAt (now s) pos n w → ent 𝓤 (⋆ 𝓤 H A (‵ (S.the-row .own x (va x ∷ [])) ∷ (‵ (flft κ q) ⊛ ‵ ftrue) ∷ ‵ Own ∷ [])) (Post (va x))
-  exits x gp gn gw e =
-      qed W (‵ (S.the-row .own x (va x ∷ [])) ∷ (‵ (flft κ q) ⊛ ‵ ftrue) ∷ ‵ Own ∷ []) ∵
-      suffices ! _ (ends-at 𝓤 H A top.ended stayed (top.clauses 𝓤 H A mem run) W (((κ, tt), (q, tt), tt, (s, (pos, (n, (w, tt)))), given-at), tt) (va x) x (tt, (tt, (tt, (tt, tt)))) (tt, (tt, (tt, (tt, tt))))) $ says ! e $
+  abbrev restVal : Advance → Val
+  restVal t = LL.val (T.the-type α) (T′.the-laws α) (t .rest)
+
+  abbrev advanceVal : Advance → Val
+  advanceVal t = vstruct (vcons (va (t .access)) (vcons (restVal t) vnil))
+
+  -- the result, and its machine value
+  abbrev result : Advance → Progress
+  result t = record { access = t .access; at = t .rest .at }
+
+  abbrev resultVal : Advance → Val
+  resultVal t = vstruct (vcons (va (t .access)) (vcons (vint w64 (t .rest .at)) vnil))
+
+  finds : (r : Reader) (t : Advance) → (r .bytes ≡ s) × (r .at ≡ pos) → Said r t → Finds (result t) (now s) pos n w
+  finds r t e f =
+      let g : (accessAt (now (r .bytes)) (r .at) n w ≡ accessAt (now s) pos n w) × (goesOn (now (r .bytes)) (r .at) n w ≡ goesOn (now s) pos n w) =
+      (λ i. accessAt (now (e .0 i)) (e .1 i) n w, λ i. goesOn (now (e .0 i)) (e .1 i) n w) in
+      (f .0 ∙ g .0, f .2 ∙ g .1)
+
+  exits : (t : Advance) → pos < 2 ^ 64 → n < 2 ^ 32 → w < 2 ^ 32 → Finds (result t) (now s) pos n w → ent 𝓤 (⋆ 𝓤 H A (‵ (G.the-row .own (result t) (resultVal t ∷ [])) ∷ (‵ (flft κ q) ⊛ ‵ ftrue) ∷ ‵ Own ∷ [])) (Post (resultVal t))
+  exits t gp gn gw e =
+      qed W (‵ (G.the-row .own (result t) (resultVal t ∷ [])) ∷ (‵ (flft κ q) ⊛ ‵ ftrue) ∷ ‵ Own ∷ []) ∵
+      suffices ! _ (ends-at 𝓤 H A top.ended stayed (top.clauses 𝓤 H A mem run) W (((κ, tt), (q, tt), tt, (s, (pos, (n, (w, tt)))), given-at), tt) (resultVal t) (result t) (tt, (tt, (tt, (tt, tt)))) (tt, (tt, (tt, (tt, tt))))) $ says ! e $
       move ! (1 ∷ []) $ frame ! $ nothing ! $ owned ! u32 (Is u32) (uint-makes 𝓤 H A W w32) w _ (refl, gw) $ fjoin ! $ owned ! u32 (Is u32) (uint-makes 𝓤 H A W w32) n _ (refl, gn) $ fjoin ! $ owned ! usize (Is usize) (uint-makes 𝓤 H A W w64) pos _ (refl, gp) $ fjoin ! $ move ! (2 ∷ 0 ∷ []) $ fjoin ! $ frame ! $ done !
 
   module _ (C : Calls 𝓤 H) (Λ : Loops 𝓤 H) (fm : FmC 𝓤 H (W .laws) C) (known-begin : Triple 𝓤 (C #begin) (Begin 𝓤 H A mem run)) (known-next : Triple 𝓤 (C #next) (Next 𝓤 H A mem run)) where
     walk : Is (ShrSlice (named 0) κ u8) s (v ∷ []) → pos < 2 ^ 64 → n < 2 ^ 32 → w < 2 ^ 32 → ent 𝓤 (onEntry 𝓤 H A top.signature (κ, tt) (q, tt) (s, (pos, (n, (w, tt)))) given-at) (WpFn 𝓤 H C Λ code.function (v ∷ vint w64 pos ∷ vint w32 n ∷ vint w32 w ∷ []) Post)
     walk p gp gn gw =
         qed W (raw (onEntry 𝓤 H A top.signature (κ, tt) (q, tt) (s, (pos, (n, (w, tt)))) given-at) ∷ []) ∵ enter ! C Λ code.function (v ∷ vint w64 pos ∷ vint w32 n ∷ vint w32 w ∷ []) _ $
-        alloc1 ! (λ l0. alloc1 ! (λ l1. alloc1 ! (λ l2. alloc1 ! (λ l3. alloc1 ! (λ l4. alloc1 ! (λ l5. alloc1 ! (λ l6. alloc0 ! $ params1 ! $ pass1 ! (init ! 10 refl (shr-slice-lawful 𝓤 H A W (named 0) κ u8 .typed s (v ∷ []) p .0)) $ pass1 ! (init ! 8 refl (tt, record { fits = gp })) $ pass1 ! (init ! 6 refl (tt, record { fits = gn })) $ pass1 ! (init ! 4 refl (tt, record { fits = gw })) $ pass0 ! $
-        move ! (14 ∷ []) $ use1 W (raw (Begin 𝓤 H A mem run .pre to-begin) ⊛ ‵ Own) (goes-begin gp) $ split ! $
-        calls-at ! fm (Begin 𝓤 H A mem run) known-begin to-begin (and-then ! (load ! (from ! (stop !)) (look ! 12 refl)) (and-then ! (load ! (from ! (stop !)) (look ! 10 refl)) (no-more !))) (λ u.
+        alloc1 ! (λ l0. alloc1 ! (λ l1. alloc1 ! (λ l2. alloc1 ! (λ l3. alloc1 ! (λ l4. alloc1 ! (λ l5. alloc1 ! (λ l6. alloc1 ! (λ l7. alloc1 ! (λ l8. alloc0 ! $ params1 ! $ pass1 ! (init ! 14 refl (shr-slice-lawful 𝓤 H A W (named 0) κ u8 .typed s (v ∷ []) p .0)) $ pass1 ! (init ! 12 refl (tt, record { fits = gp })) $ pass1 ! (init ! 10 refl (tt, record { fits = gn })) $ pass1 ! (init ! 8 refl (tt, record { fits = gw })) $ pass0 ! $
+        move ! (18 ∷ []) $ use1 W (raw (Begin 𝓤 H A mem run .pre to-begin) ⊛ ‵ Own) (goes-begin gp) $ split ! $
+        calls-at ! fm (Begin 𝓤 H A mem run) known-begin to-begin (and-then ! (load ! (from ! (stop !)) (look ! 16 refl)) (and-then ! (load ! (from ! (stop !)) (look ! 14 refl)) (no-more !))) (λ u.
         use1 W (later (some (λ (r : Reader). ((‵ (flft κ q) ⊛ ‵ ftrue) ⊛ ‵ (T.the-row α .own r (u ∷ []))) ⊛ raw (ensured 𝓤 H A begin.ended (begin.clauses 𝓤 H A mem run) (κ, tt) (s, (pos, tt)) tt r)))) (id⊢ 𝓤 _) $ await ! tt $ pick ! (λ r.
         split ! $ move ! (1 ∷ []) $ use1 W (raw (fact 𝓤 ((r .bytes ≡ s) × (r .at ≡ pos)))) (begin-said r) $ heard ! ((r .bytes ≡ s) × (r .at ≡ pos)) (λ e. split ! $ move ! (1 ∷ []) $
-        -- [what the Reader owns; the token; what s owns; room for _6; …; _1; …; room for _0; …]
+        -- [what the Reader owns; the token; what s owns; room for _8; …; _1; …; room for _0; …]
         peeks ! (T.the-row α) (Is (T.the-row α)) (shows 𝓤 H A (T.the-row α)) r (u ∷ []) (λ is.
-        land ! (from ! (stop !)) (init ! 3 refl (LL.lawful (T.the-type αᵉ) (T′.the-laws αᵉ) 𝓤 H A W .typed r _ is .0)) $
+        land ! (from ! (stop !)) (init ! 7 refl (LL.lawful (T.the-type αᵉ) (T′.the-laws αᵉ) 𝓤 H A W .typed r _ is .0)) $
         use2 W (raw (Next 𝓤 H A mem run .pre (to-next r u))) (goes-next r u gn gw) $
-        calls-at ! fm (Next 𝓤 H A mem run) known-next (to-next r u) (and-then ! (load ! (from ! (stop !)) (look ! 2 refl)) (and-then ! (load ! (from ! (stop !)) (look ! 8 refl)) (and-then ! (load ! (from ! (stop !)) (look ! 6 refl)) (no-more !)))) (λ u′.
+        calls-at ! fm (Next 𝓤 H A mem run) known-next (to-next r u) (and-then ! (load ! (from ! (stop !)) (look ! 6 refl)) (and-then ! (load ! (from ! (stop !)) (look ! 12 refl)) (and-then ! (load ! (from ! (stop !)) (look ! 10 refl)) (no-more !)))) (λ u′.
         use1 W (later (some (λ (t : Advance). ((‵ (flft κ q) ⊛ ‵ ftrue) ⊛ ‵ (P.the-row α .own t (u′ ∷ []))) ⊛ raw (ensured 𝓤 H A next.ended (next.clauses 𝓤 H A mem run) (κ, tt) (r, (n, (w, tt))) tt t)))) (id⊢ 𝓤 _) $ await ! tt $ pick ! (λ t.
         split ! $ move ! (1 ∷ []) $ use1 W (raw (fact 𝓤 (Said r t))) (next-said r t) $ heard ! (Said r t) (λ e′. split ! $ move ! (1 ∷ []) $
-        -- [what the Advance owns; the token; what s owns; _6; …; room for _5; …; _1; …; room for _0; …]
+        -- [what the Advance owns; the token; what s owns; room for _8; …; _6; …; room for _5; …; _1; …; room for _0; …]
         peeks ! (P.the-row α) (Is (P.the-row α)) (shows 𝓤 H A (P.the-row α)) t (u′ ∷ []) (λ is′.
-        land ! (from ! (stop !)) (init ! 5 refl (LL.lawful (P.the-type αᵉ) (P′.the-laws αᵉ) 𝓤 H A W .typed t _ is′ .0)) $
-        -- of what it owns, what the access owns; and its machine value, taken apart
-        use1 W (given (u′ ∷ [] ≡ resultVal t ∷ []) (‵ (all-own (D .parts) L (vt t)))) (own-open 𝓤 H A W D L (vt t) u′) $ learn ! (λ eq.
-        rewrite ! 5 (λ (x : Val). ‵ (fat fullShare (P′.mir erased) l5 0 x)) (ap only eq) refl $
-        use1 W (‵ (ownAt (D .parts) L 0 (t .access)) ⊛ ‵ (rest (D .parts) L 0 (vt t))) (own-out 𝓤 H A W (D .parts) L 0 (vt t)) $ split ! $ move ! (1 ∷ []) $ drop ! $
+        land ! (from ! (stop !)) (init ! 9 refl (LL.lawful (P.the-type αᵉ) (P′.the-laws αᵉ) 𝓤 H A W .typed t _ is′ .0)) $
+        -- it is taken apart, and so is its machine value; and so is its rest, for its place
+        use1 W (given (u′ ∷ [] ≡ advanceVal t ∷ []) (‵ (all-own (D .parts) L (vt t)))) (own-open 𝓤 H A W D L (vt t) u′) $ learn ! (λ eq.
+        rewrite ! 9 (λ (x : Val). ‵ (fat fullShare (P′.mir erased) l5 0 x)) (ap only eq) refl $
+        fsplit ! $ move ! (1 ∷ []) $ fsplit ! $ move ! (1 ∷ []) $ drop ! $
+        use1 W (given (restVal t ∷ [] ≡ restVal t ∷ []) (‵ (all-own (T.the-type α .parts) (T′.the-laws α) (vr t)))) (own-open 𝓤 H A W (T.the-type α) (T′.the-laws α) (vr t) (restVal t)) $ learn ! (λ _.
+        fsplit ! $ drop ! $ fsplit ! $ move ! (1 ∷ []) $ drop ! $
+        peeks ! usize (Is usize) (shows 𝓤 H A usize) (t .rest .at) (vint w64 (t .rest .at) ∷ []) (λ fits. drop ! $
+        -- [the access; the token; what s owns; room for _8; …; _6; …; _5; …; _1; …; room for _0; …]
         peeks ! S.the-row (Is S.the-row) (shows 𝓤 H A S.the-row) (t .access) (va (t .access) ∷ []) (λ is″.
-        assigns ! (of-opd ! (load ! (from ! (fld ! refl (stop !))) (look-in ! 5 (sub ! 0 refl (whole !))))) (from ! (stop !)) (init ! 15 refl (EL.lawful S.the-type S′.the-laws 𝓤 H A W tt .typed (t .access) _ is″ .0)) $
-        returns ! (look ! 15 refl) $ forget ! 3 refl $ forget ! 5 refl $ forget ! 7 refl $ forget ! 9 refl $ forget ! 11 refl $ forget ! 13 refl $ forget ! 15 refl $
-        move ! (15 ∷ 16 ∷ []) $ free1 ! $ move ! (13 ∷ 14 ∷ []) $ free1 ! $ move ! (11 ∷ 12 ∷ []) $ free1 ! $ move ! (9 ∷ 10 ∷ []) $ free1 ! $ move ! (7 ∷ 8 ∷ []) $ free1 ! $ move ! (5 ∷ 6 ∷ []) $ free1 ! $ move ! (3 ∷ 4 ∷ []) $ free1 ! $ free0 ! $
-        by ! (exits (t .access) gp gn gw (e′ .0 ∙ (ap (λ (x : RefT (List ℕ)). accessAt (now x) (r .at) n w) (e .0) ∙ ap (λ (i : ℕ). accessAt (now s) i n w) (e .1)))))))))))))))))))))
+        assigns ! (of-opd ! (load ! (from ! (fld ! refl (stop !))) (look-in ! 9 (sub ! 0 refl (whole !))))) (from ! (stop !)) (init ! 5 refl (EL.lawful S.the-type S′.the-laws 𝓤 H A W tt .typed (t .access) _ is″ .0)) $
+        assigns ! (of-opd ! (load ! (from ! (fld ! refl (fld ! refl (stop !)))) (look-in ! 9 (sub ! 1 refl (sub ! 1 refl (whole !)))))) (from ! (stop !)) (init ! 3 refl (tt, record { fits = fits .1 })) $
+        -- the result of the two
+        nothing ! $ owned ! usize (Is usize) (uint-makes 𝓤 H A W w64) (t .rest .at) _ (refl, fits .1) $ fjoin ! $ move ! (1 ∷ 0 ∷ []) $ fjoin ! $
+        use1 W (‵ (G.the-row .own (result t) (resultVal t ∷ []))) (own-shut 𝓤 H A W G.the-type G′.the-laws (t .access, (t .rest .at, tt))) $
+        peeks ! G.the-row (Is G.the-row) (shows 𝓤 H A G.the-row) (result t) (resultVal t ∷ []) (λ is‴.
+        assigns ! (agg ! (and-then ! (load ! (from ! (stop !)) (look ! 5 refl)) (and-then ! (load ! (from ! (stop !)) (look ! 3 refl)) (no-more !)))) (from ! (stop !)) (init ! 19 refl (LL.lawful G.the-type G′.the-laws 𝓤 H A W .typed (result t) _ is‴ .0)) $
+        returns ! (look ! 19 refl) $ forget ! 3 refl $ forget ! 5 refl $ forget ! 7 refl $ forget ! 9 refl $ forget ! 11 refl $ forget ! 13 refl $ forget ! 15 refl $ forget ! 17 refl $ forget ! 19 refl $
+        move ! (19 ∷ 20 ∷ []) $ free1 ! $ move ! (17 ∷ 18 ∷ []) $ free1 ! $ move ! (15 ∷ 16 ∷ []) $ free1 ! $ move ! (13 ∷ 14 ∷ []) $ free1 ! $ move ! (11 ∷ 12 ∷ []) $ free1 ! $ move ! (9 ∷ 10 ∷ []) $ free1 ! $ move ! (7 ∷ 8 ∷ []) $ free1 ! $ move ! (5 ∷ 6 ∷ []) $ free1 ! $ move ! (3 ∷ 4 ∷ []) $ free1 ! $ free0 ! $
+        by ! (exits t gp gn gw (finds r t e e′))))))))))))))))))))))))
 
 module _ {M : Type 1} (𝓤 : URA M) (H : Heap 𝓤) (A : Atoms 𝓤) (W : Given 𝓤 H A) (mem : Memory → SProp 𝓤) (run : Routine → Fun 𝓤) where
   access-at-walks : (C : Calls 𝓤 H) (Λ : Loops 𝓤 H) → FmC 𝓤 H (W .laws) C → Triple 𝓤 (C #begin) (Begin 𝓤 H A mem run) → Triple 𝓤 (C #next) (Next 𝓤 H A mem run)

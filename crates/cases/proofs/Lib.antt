@@ -1,0 +1,9 @@
+pub mod CallLaws
+pub mod LastLaws
+pub mod WayLaws
+pub mod CaseLaws
+pub mod AcceptedLaws
+pub mod RefusedLaws
+pub mod PrintLaws
+pub mod NumberLaws
+pub mod ExampleLaws

@@ -1,0 +1,161 @@
+-- The numbers of refused cases.
+use mathlib.Core.Path.{_≡_, refl, sym, ap, subst, _∙_}
+use mathlib.Core.Bool.{Bool, true, false, cond, _&&_, _||_, false≢true}
+use mathlib.Core.Logic.{_⊎_, inl, inr}
+use mathlib.Core.List.{List, [], _∷_, _++_}
+use Prim.Native.Nat.{ℕ, zero, suc, _+_, _*_, _≤_}
+use native.Mathlib.Omega.{arith}
+use lib.Dec.{eqb}
+use lib.ListN.{length, getD, replicate, length-replicate}
+use borrow.Author.Tests.{eqb-true, eq-eqb}
+use Rattle.nodes.proofs.BoolLaws.{and-both, or-cases, both-and}
+use Rattle.model.specs.Record.{part}
+use Rattle.model.specs.Rows.{Row, firstRow, writeRows, readRows, assertRows, checkRows, evaluateRows}
+use Rattle.model.specs.Step.{State, Call, refused, refusal, step, run}
+use Rattle.model.specs.Frames.{Valid, RefusalNumber, NoRow123, RefusedByRow, late, lacksSpace, overflows}
+use Rattle.model.proofs.FrameLaws.{refusal-number, no-row-123}
+use Rattle.model.proofs.StayLaws.{refused-by-row}
+use Rattle.reading.specs.declared.Kind.{Kind}
+use Rattle.reading.specs.declared.Kind.the-variants as kind
+use Rattle.reading.specs.Bytes.{numbersAt}
+use Rattle.reading.specs.Kinds.{sizeOf}
+use Rattle.reading.specs.Accesses.{Found, found, kindAt, nodesAt, accessRows, foundUnless, accessAt}
+use Rattle.reading.specs.Accesses as accesses
+use Rattle.reading.specs.Sections.{Sections, ready, recordIn, nodesIn, earlyRows, lateRows, sectionsUnless, sections, accessesIn, firstAt}
+use Rattle.reading.specs.Sections as sections
+use Rattle.reading.proofs.BytesLaws.{numbers-length}
+use Rattle.reading.proofs.RowLaws.{rows-number}
+use Rattle.reading.proofs.SectionLaws.{sections-read, sections-valid}
+use Rattle.cases.specs.Case.{callOf}
+use Rattle.cases.specs.Claims.{stateIn, AllAccepted, SectionsReady, firstCalls, byteAfter, answerAfter, RefusedAt, missing, refusedCall, lineOver, bytesLeft, endOver, CaseRefused, CaseNumber, RefusedNumbers}
+use Rattle.cases.proofs.CallLaws.{part-size}
+use Rattle.cases.proofs.CaseLaws.{same-sizes}
+use Rattle.cases.proofs.RefusedLaws.{case-refused-after}
+
+-- a number of the table that is neither 3 nor 4
+one : CaseNumber 1
+one = (omega arith, omega arith, λ e. omega arith, λ e. omega arith)
+
+two : CaseNumber 2
+two = (omega arith, omega arith, λ e. omega arith, λ e. omega arith)
+
+from-five : (k : ℕ) → 5 ≤ k → k ≤ 13 → CaseNumber k
+from-five k h l = (omega arith, omega arith, λ e. omega arith, λ e. omega arith)
+
+ten : CaseNumber 10
+ten = from-five 10 (omega arith) (omega arith)
+
+-- of the sections, and of an access that is not there
+section-number : (file words : List ℕ) (number : ℕ) → sections file words .1 ≡ sections.refused number → CaseNumber number
+unfolding sections
+section-number file words number e = go (firstRow (earlyRows file words ++ lateRows file words)) refl e
+  where
+    go : (r : ℕ) → firstRow (earlyRows file words ++ lateRows file words) ≡ r → sectionsUnless r (ready (getD file 0 0) (getD file 1 0) (nodesIn file + 2) (accessesIn file) (firstAt file)) ≡ sections.refused number → CaseNumber number
+    go zero q e = let z : _≡_ {A = ℕ} 0 1 = cc in absurd (omega arith)
+    go (suc k) q e = let z : number ≡ suc k = cc in subst CaseNumber (sym z) (rows-number CaseNumber (earlyRows file words ++ lateRows file words) (ten, (one, (ten, (ten, (two, (two, (ten, tt))))))) q)
+
+access-number : (file : List ℕ) (at n w number : ℕ) → accessAt file at n w ≡ accesses.refused number → CaseNumber number
+unfolding accessAt
+access-number file at n w number e = go (firstRow (accessRows file at n w)) refl e
+  where
+    go : (r : ℕ) → firstRow (accessRows file at n w) ≡ r → foundUnless r (found (kindAt file at) (nodesAt file at)) ≡ accesses.refused number → CaseNumber number
+    go zero q e = let z : _≡_ {A = ℕ} 0 1 = cc in absurd (omega arith)
+    go (suc k) q e = let z : number ≡ suc k = cc in subst CaseNumber (sym z) (rows-number CaseNumber (accessRows file at n w) (ten, (from-five 11 (omega arith) (omega arith), (ten, tt))) q)
+
+-- rows of which each with this number holds
+abbrev Passes : ℕ → List Row → Type 0
+Passes k [] = Unit {0}
+Passes k (t ∷ ts) = (t .0 ≡ k → t .1 ≡ true) × Passes k ts
+
+passes-not : (k : ℕ) (ts : List Row) → Passes (suc k) ts → firstRow ts ≡ suc k → ⊥
+passes-not k [] P e = omega arith
+passes-not k (t ∷ ts) P e = go (passes-not k ts (P .1)) (t .1) refl e
+  where
+    go : (firstRow ts ≡ suc k → ⊥) → (b : Bool) → t .1 ≡ b → cond b (firstRow ts) (t .0) ≡ suc k → ⊥
+    go again true q e = again e
+    go again false q e = false≢true (sym q ∙ P .0 e)
+
+-- an access of a file has control, address and data of the right lengths
+module _ (n w : ℕ) (ops : List ℕ) (s : State) (en : s .rec .n ≡ n) (ew : s .rec .w ≡ w) where
+  lengths : {a b c x y z : ℕ} → a ≡ x → b ≡ y → c ≡ z → (eqb a x && eqb b y && eqb c z) ≡ true
+  lengths {a} {b} {c} {x} {y} {z} p q r = both-and (both-and (eq-eqb a x p) (eq-eqb b y q)) (eq-eqb c z r)
+
+  address : (i : ℕ) → i + 2 * n ≤ length ops → length (part ops i (i + 2 * n)) ≡ 2 * s .rec .n
+  address i h = part-size ops i (2 * n) h ∙ ap (λ (x : ℕ). 2 * x) (sym en)
+
+  word : (i : ℕ) → i + 2 * w ≤ length ops → length (part ops i (i + 2 * w)) ≡ 2 * s .rec .w
+  word i h = part-size ops i (2 * w) h ∙ ap (λ (x : ℕ). 2 * x) (sym ew)
+
+  -- a row of another number
+  no : {k : ℕ} {b : Bool} → k ≡ 4 → eqb k 4 ≡ false → b ≡ true
+  no e f = absurd (false≢true (sym f ∙ eq-eqb _ 4 e))
+
+  row-four : (k : Kind) → length ops ≡ sizeOf k n w → refusal (callOf k n w ops) s ≡ 4 → ⊥
+  unfolding callOf sizeOf
+  row-four kind.Write z = passes-not 3 (writeRows (s .rec) (s .words) (s .list) (part ops 0 2) (part ops 2 (2 + 2 * n)) (part ops (2 + 2 * n) (2 + 2 * n + 2 * w))) (λ e. no e refl, (λ e. no e refl, (λ e. no e refl, (λ _. lengths (part-size ops 0 2 (omega arith)) (address 2 (omega arith)) (word (2 + 2 * n) (omega arith)), (λ e. no e refl, (λ e. no e refl, (λ e. no e refl, tt)))))))
+  row-four kind.Read z = passes-not 3 (readRows (s .rec) (s .words) (s .list) (part ops 0 2) (part ops 2 (2 + 2 * n)) (replicate (2 * w) 0)) (λ e. no e refl, (λ e. no e refl, (λ e. no e refl, (λ _. lengths (part-size ops 0 2 (omega arith)) (address 2 (omega arith)) (length-replicate {A = ℕ} (2 * w) 0 ∙ ap (λ (x : ℕ). 2 * x) (sym ew)), (λ e. no e refl, (λ e. no e refl, tt))))))
+  row-four kind.Assert z = passes-not 3 (assertRows (s .rec) (s .words) (s .list) (getD ops 0 0) (part ops 1 (1 + 2 * n)) (part ops (1 + 2 * n) (1 + 2 * n + 2 * w))) (λ e. no e refl, (λ e. no e refl, (λ e. no e refl, (λ _. both-and (eq-eqb _ _ (address 1 (omega arith))) (eq-eqb _ _ (word (1 + 2 * n) (omega arith))), (λ e. no e refl, (λ e. no e refl, (λ e. no e refl, tt)))))))
+  row-four kind.Check z = passes-not 3 (checkRows (s .rec) (s .words) (s .list) (getD ops 0 0) (part ops 1 (1 + 2 * n)) (part ops (1 + 2 * n) (1 + 2 * n + 2 * w))) (λ e. no e refl, (λ e. no e refl, (λ e. no e refl, (λ _. both-and (eq-eqb _ _ (address 1 (omega arith))) (eq-eqb _ _ (word (1 + 2 * n) (omega arith))), (λ e. no e refl, (λ e. no e refl, tt))))))
+  row-four kind.Unknown z = passes-not 3 (evaluateRows (s .rec) (s .words) 0) (λ e. no e refl, (λ e. no e refl, (λ e. no e refl, tt)))
+
+  not-four : (k : Kind) → length ops ≡ sizeOf k n w → step (callOf k n w ops) s .answer ≡ refused 4 → ⊥
+  unfolding RefusedByRow
+  not-four k z e = go (or-cases (eqb (refusal (callOf k n w ops) s) 4) _ (refused-by-row (callOf k n w ops) s 4 e))
+    where
+      none : (x y : Bool) → (x && false || y && false) ≡ true → ⊥
+      none true true e = false≢true e
+      none true false e = false≢true e
+      none false true e = false≢true e
+      none false false e = false≢true e
+
+      go : (eqb (refusal (callOf k n w ops) s) 4 ≡ true) ⊎ ((eqb (refusal (callOf k n w ops) s) 0 && late (callOf k n w ops) s 4) ≡ true) → ⊥
+      go (inl q) = row-four k z (eqb-true _ 4 q)
+      go (inr q) = none (lacksSpace (callOf k n w ops) s) (overflows (callOf k n w ops) s) (and-both (eqb (refusal (callOf k n w ops) s) 0) _ q .1)
+
+-- n and w stay
+run-sizes : (cs : List Call) (s : State) → AllAccepted cs s → (run cs s .rec .n ≡ s .rec .n) × (run cs s .rec .w ≡ s .rec .w)
+unfolding run
+run-sizes [] s A = (refl, refl)
+run-sizes (c ∷ cs) s A =
+    let Z = same-sizes c s (A .0) in
+    let R = run-sizes cs (step c s .after) (A .1) in
+    (R .0 ∙ Z .0, R .1 ∙ Z .1)
+
+-- the state with which the accesses begin
+first-valid : (file words list : List ℕ) → SectionsReady file words → Valid (stateIn file words list)
+first-valid file words list q =
+    let ws = sections file words .0 in
+    let R = sections-read file words {ws = ws} (ap (λ (y : Sections). (ws, y)) (sym q)) in
+    subst (λ (x : List ℕ). Valid (record { rec = recordIn file; words = x; list = list })) (R .words-are) (sections-valid R list)
+
+-- of a call
+call-number : (file words list : List ℕ) (k number : ℕ) → SectionsReady file words → AllAccepted (firstCalls file k) (stateIn file words list) → answerAfter file words list k ≡ refused number → CaseNumber number
+unfolding RefusalNumber NoRow123
+call-number file words list k number q A e =
+    let s = run (firstCalls file k) (stateIn file words list) in
+    let at = byteAfter file k in
+    let n = getD file 0 0 in
+    let w = getD file 1 0 in
+    let ops = numbersAt file (nodesAt file at) (sizeOf (kindAt file at) n w) in
+    let Z = run-sizes (firstCalls file k) (stateIn file words list) A in
+    let four : 4 ≤ number = no-row-123 (firstCalls file k) (callOf (kindAt file at) n w ops) (stateIn file words list) number (first-valid file words list q) e in
+    let nine : number ≤ 9 = refusal-number (callOf (kindAt file at) n w ops) s number e .1 in
+    let no : number ≡ 4 → ⊥ = λ z. not-four n w ops s (Z .0) (Z .1) (kindAt file at) (numbers-length file (nodesAt file at) (sizeOf (kindAt file at) n w)) (e ∙ ap refused z) in
+    (omega arith, omega arith, λ z. omega arith, no)
+
+at-number : (file words list text : List ℕ) {number k : ℕ} → SectionsReady file words → AllAccepted (firstCalls file k) (stateIn file words list) → RefusedAt file words list text number k → CaseNumber number
+at-number file words list text q A (missing h e) = access-number file _ _ _ _ e
+at-number file words list text {number} {k} q A (refusedCall h s e) = call-number file words list k number q A e
+at-number file words list text q A (lineOver h s a f e) = from-five _ (omega arith) (omega arith)
+at-number file words list text q A (bytesLeft h l e) = from-five _ (omega arith) (omega arith)
+at-number file words list text q A (endOver h l f e) = from-five _ (omega arith) (omega arith)
+
+pub refused-numbers : RefusedNumbers
+unfolding RefusedNumbers CaseRefused
+refused-numbers file words list text number after e =
+    let R = case-refused-after file words list text number after e in
+    go (R .accepted) (R .reason)
+  where
+    go : AllAccepted (firstCalls file after) (stateIn file words list) → ((sections file words .1 ≡ sections.refused number) × (after ≡ 0)) ⊎ (SectionsReady file words × RefusedAt file words list text number after) → CaseNumber number
+    go A (inl p) = section-number file words number (p .0)
+    go A (inr p) = at-number file words list text (p .0) A (p .1)

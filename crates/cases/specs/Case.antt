@@ -1,0 +1,150 @@
+-- 01, 'Case file': what a case answers, and what it leaves of node words, list and text bytes.
+use mathlib.Core.Bool.{true, false, cond}
+use mathlib.Core.List.{List, []}
+use Prim.Native.Nat.{ℕ, zero, suc, _+_, _*_}
+use lib.Dec.{ltb}
+use lib.ListN.{length, getD, take, replicate}
+use Rattle.text.specs.Text.{Out, growing, appended}
+use Rattle.lines.specs.Lines.{writeLine, readLine, assertLine, checkLine, endLine, refusedLine}
+use Rattle.model.specs.Record.{Record, part}
+use Rattle.model.specs.Step.{State, Call, write, read, assert, check, evaluate, Answer, place, filled, entered, kept, accepted, valued, node, step}
+use Rattle.model.specs.Step as step
+use Rattle.reading.specs.declared.Kind.{Kind}
+use Rattle.reading.specs.declared.Kind.the-variants as kind
+use Rattle.reading.specs.Bytes.{numbersAt}
+use Rattle.reading.specs.Kinds.{sizeOf}
+use Rattle.reading.specs.Accesses.{Found, found, accessAt, goesOn}
+use Rattle.reading.specs.Accesses as accesses
+use Rattle.reading.specs.Sections.{Sections, ready, firstRecord, sections}
+use Rattle.reading.specs.Sections as sections
+
+-- "Then the control pair (b alone for 3 and 4), address, data (none for a read)": the call with these nodes. A read is lent words of its own. No access of an unknown kind is found
+unfoldable pub callOf : Kind → ℕ → ℕ → List ℕ → Call
+callOf kind.Write n w ops = write (part ops 0 2) (part ops 2 (2 + 2 * n)) (part ops (2 + 2 * n) (2 + 2 * n + 2 * w))
+callOf kind.Read n w ops = read (part ops 0 2) (part ops 2 (2 + 2 * n)) (replicate (2 * w) 0)
+callOf kind.Assert n w ops = assert (getD ops 0 0) (part ops 1 (1 + 2 * n)) (part ops (1 + 2 * n) (1 + 2 * n + 2 * w))
+callOf kind.Check n w ops = check (getD ops 0 0) (part ops 1 (1 + 2 * n)) (part ops (1 + 2 * n) (1 + 2 * n + 2 * w))
+callOf kind.Unknown n w ops = evaluate 0 0
+
+-- "Lines: a write's entry place; a read's h:l for each bit ..; the check condition". "An assert prints `assert entered` or `assert kept`, a space, the assert condition.": the line of an access by its answer and the state after it
+abbrev pub lineOf : Answer → State → List ℕ
+lineOf (step.refused k) s = []
+lineOf (place k) s = writeLine k
+lineOf (filled r) s = readLine (s .words) r
+lineOf entered s = assertLine (s .words) true (s .rec .asserted)
+lineOf kept s = assertLine (s .words) false (s .rec .asserted)
+lineOf accepted s = checkLine (s .words) (s .rec .checked)
+lineOf (valued b) s = []
+lineOf (node n) s = []
+
+-- a case between two accesses: the state, the byte of the file with which the next access begins, and the text so far
+pub record Running : Type 0 where
+  pub state : State
+  pub at : ℕ
+  pub text : Out
+
+-- it goes on, or is refused by this number
+pub data Next : Type 0 where
+  goes : Running → Next
+  stops : ℕ → Next
+
+-- 13: "text too long for its buffer"
+abbrev pub printed : State → ℕ → Out → Next
+printed s at o = cond (o .text .full) (stops 13) (goes (record { state = s; at = at; text = o }))
+
+-- a refused access refuses the case; the line of another is printed
+abbrev pub said : Answer → State → ℕ → Out → Next
+said (step.refused k) s at o = stops k
+said (place k) s at o = printed s at (appended (lineOf (place k) s) o)
+said (filled r) s at o = printed s at (appended (lineOf (filled r) s) o)
+said entered s at o = printed s at (appended (lineOf entered s) o)
+said kept s at o = printed s at (appended (lineOf kept s) o)
+said accepted s at o = printed s at (appended (lineOf accepted s) o)
+said (valued b) s at o = printed s at (appended (lineOf (valued b) s) o)
+said (node n) s at o = printed s at (appended (lineOf (node n) s) o)
+
+-- "Each access is read, done and printed in turn.": the call is done, tests included, and its line printed; the next access begins at this byte
+unfoldable pub done : Call → State → ℕ → Out → Next
+done c s at o = said (step c s .answer) (step c s .after) at o
+
+-- an access found, of n and w as in the record, from which the reading goes on to a byte; or not found
+abbrev pub doneAs : List ℕ → Found → ℕ → State → Out → Next
+doneAs file (found k from) next s o = done (callOf k (s .rec .n) (s .rec .w) (numbersAt file from (sizeOf k (s .rec .n) (s .rec .w)))) s next o
+doneAs file (accesses.refused k) next s o = stops k
+
+unfoldable pub one : List ℕ → Running → Next
+one file c =
+    let n = c .state .rec .n in
+    let w = c .state .rec .w in
+    doneAs file (accessAt file (c .at) n w) (goesOn file (c .at) n w) (c .state) (c .text)
+
+-- all accesses are done and the last line printed; or a refusal's number, and the accesses already printed
+pub data Ended : Type 0 where
+  ended : State → Out → Ended
+  stopped : ℕ → ℕ → Ended
+
+abbrev pub lastPrinted : State → ℕ → Out → Ended
+lastPrinted s k o = cond (o .text .full) (stopped 13 k) (ended s o)
+
+-- "12 before the last line is written": k accesses are printed, and there is no more
+unfoldable pub last : List ℕ → ℕ → Running → Ended
+last file k c = cond (ltb (c .at) (length file)) (stopped 12 k) (lastPrinted (c .state) k (appended (endLine (c .state .rec .entries)) (c .text)))
+
+-- after an access, the rest
+abbrev pub after : Next → ℕ → (Running → Ended) → Ended
+after (goes c) k rest = rest c
+after (stops r) k rest = stopped r k
+
+-- m accesses more, after k
+unfoldable pub rest : List ℕ → ℕ → ℕ → Running → Ended
+rest file zero k c = last file k c
+rest file (suc m) k c = after (one file c) k (rest file m (suc k))
+
+-- the sections, and the accesses from a fresh record with the file's nodes on, the text being empty
+abbrev pub afterSections : List ℕ → List ℕ → Sections → List ℕ → List ℕ → Ended
+afterSections file ws (ready n w count m at) list text = rest file m 0 (record { state = record { rec = firstRecord n w count; words = ws; list = list }; at = at; text = growing text 0 })
+afterSections file ws (sections.refused k) list text = stopped k 0
+
+unfoldable pub whole : List ℕ → List ℕ → List ℕ → List ℕ → Ended
+whole file words list text = afterSections file (sections file words .0) (sections file words .1) list text
+
+-- "An accepted case answers the text length and the last record"; "A refused case answers its number and K"
+pub data Answered : Type 0 where
+  accepts : ℕ → Record → Answered
+  refuses : ℕ → ℕ → Answered
+
+-- what a case answers, and leaves
+pub record Case : Type 0 where
+  pub answer : Answered
+  pub words : List ℕ
+  pub list : List ℕ
+  pub text : List ℕ
+
+abbrev pub zeroed : List ℕ → List ℕ
+zeroed l = replicate (length l) 0
+
+-- a refused case "zeroes node store, list and text buffer"
+abbrev pub closed : List ℕ → List ℕ → List ℕ → Ended → Case
+closed words list text (ended s o) = record { answer = accepts (o .text .at) (s .rec); words = s .words; list = s .list; text = o .buffer }
+closed words list text (stopped r k) = record { answer = refuses r k; words = zeroed words; list = zeroed list; text = zeroed text }
+
+unfoldable pub caseOf : List ℕ → List ℕ → List ℕ → List ℕ → Case
+caseOf file words list text = closed words list text (whole file words list text)
+
+-- "A refused case .. `memcase` then prints only `refused R after K`"; of an accepted one it prints the text: what is printed of a case, in its text buffer
+abbrev pub shown : Answered → List ℕ → Out
+shown (accepts k r) text = growing text k
+shown (refuses number after) text = appended (refusedLine number after) (growing text 0)
+
+-- what a printed case leaves
+pub record Output : Type 0 where
+  pub text : Out
+  pub words : List ℕ
+  pub list : List ℕ
+
+abbrev pub outputOf : Case → Output
+outputOf c = record { text = shown (c .answer) (c .text); words = c .words; list = c .list }
+
+-- the bytes of a text
+abbrev pub bytesOf : Out → List ℕ
+bytesOf o = take (o .text .at) (o .buffer)

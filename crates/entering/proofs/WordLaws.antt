@@ -1,0 +1,25 @@
+-- What is printed of a memory: nodes of its store.
+use mathlib.Core.Path.{_≡_, ap, subst}
+use Prim.Native.Nat.{_<_}
+use Rattle.nodes.specs.Standard.{Standard}
+use Rattle.conditions.proofs.Promises.{standard-is, user-is}
+use Rattle.model.specs.Step.{State, Call, Answer, Result, step}
+use Rattle.model.specs.Frames.{Valid, StaysValid}
+use Rattle.model.proofs.ThirdLaws.{third-is}
+use Rattle.model.proofs.FrameLaws.{stays-valid}
+
+-- the state after an access
+pub after-valid : (c : Call) {s t : State} {a : Answer} → Valid s → step c s ≡ record { answer = a; after = t } → Valid t
+unfolding StaysValid
+after-valid c {s} K e = subst Valid (ap (λ (x : Result). x .after) e) (stays-valid c s K)
+
+-- what is printed of it: nodes of a store in standard form
+module _ (c : Call) {s t : State} {a : Answer} (K : Valid s) (e : step c s ≡ record { answer = a; after = t }) where
+  pub after-standard : Standard (t .words) (t .rec .count)
+  after-standard = standard-is (t .words) (t .rec .count) (after-valid c K e .two)
+
+  pub asserted-below : Standard (t .words) (t .rec .count) × (t .rec .asserted < t .rec .count)
+  asserted-below = (after-standard, user-is (t .words) (t .rec .count) (t .rec .asserted) (third-is t (after-valid c K e .three) .asserted) .0)
+
+  pub checked-below : Standard (t .words) (t .rec .count) × (t .rec .checked < t .rec .count)
+  checked-below = (after-standard, user-is (t .words) (t .rec .count) (t .rec .checked) (third-is t (after-valid c K e .three) .checked) .0)

@@ -1,0 +1,153 @@
+use Rattle.entering.proofs.WordLaws.{asserted-below}
+use Rattle.cases.proofs.CallLaws.{part-size}
+use Rattle.entering.proofs.StepLaws.{answers-as, step-on, step-stop}
+use Rattle.memory.specs.Contract.{assertAnswer}
+use Rattle.cases.specs.Case.{callOf}
+use Rattle.text.specs.Text.{out}
+use Prim.Native.Nat.{_+_, _*_}
+use mathlib.Core.Path.{refl}
+use native.Mathlib.Omega.{arith}
+use denote.Ref.{now}
+use borrow.Author.Needs.{needs}
+use Rattle.entering.proofs.do_assert.Statement.{statement}
+use Rattle.entering.proofs.do_assert.Tie as tie
+
+cast-a : tie.Need-cast-a
+cast-a c = search needs
+
+mul-a : tie.Need-mul-a
+mul-a c = search needs
+
+add-a : tie.Need-add-a
+add-a c = search needs
+
+cast-d : tie.Need-cast-d
+cast-d c = search needs
+
+mul-d : tie.Need-mul-d
+mul-d c = search needs
+
+add-d : tie.Need-add-d
+add-d c = search needs
+
+shared-slice-read-t24 : tie.Need-shared-slice-read-t24
+shared-slice-read-t24 c = search needs
+
+sub-assert-on : tie.Need-sub-assert-on
+sub-assert-on c = search needs
+
+part-assert-on-start : tie.Need-part-assert-on-start
+part-assert-on-start c = search needs
+
+part-assert-on-end : tie.Need-part-assert-on-end
+part-assert-on-end c = search needs
+
+mul-assert-on : tie.Need-mul-assert-on
+mul-assert-on c = search needs
+
+sub-assert-on-2 : tie.Need-sub-assert-on-2
+sub-assert-on-2 c = search needs
+
+part-assert-on-start-2 : tie.Need-part-assert-on-start-2
+part-assert-on-start-2 c = search needs
+
+part-assert-on-end-2 : tie.Need-part-assert-on-end-2
+part-assert-on-end-2 c = search needs
+
+assert-on-requires : tie.Need-assert-on-requires
+assert-on-requires c κs = (c .before .before .before .before .before .before .before .before .before .before .before .before .before .pre .0 .valid, c .before .before .before .before .before .before .before .before .before .before .before .before .before .pre .0 .sound, part-size (now (c .before .before .before .before .before .before .before .before .before .before .before .before .before .args .ops)) 1 (2 * c .before .before .before .before .before .before .before .before .before .before .before .before .before .args .c .memory .n) (omega (arith, c .before .before .before .before .before .before .before .before .before .before .before .before .before .pre .1)), part-size (now (c .before .before .before .before .before .before .before .before .before .before .before .before .before .args .ops)) (1 + 2 * c .before .before .before .before .before .before .before .before .before .before .before .before .before .args .c .memory .n) (2 * c .before .before .before .before .before .before .before .before .before .before .before .before .before .args .c .memory .w) (omega (arith, c .before .before .before .before .before .before .before .before .before .before .before .before .before .pre .1)))
+
+enum-told : tie.Need-enum-told
+enum-told c = search needs
+
+put-assert-requires : tie.Need-put-assert-requires
+put-assert-requires c κs = asserted-below _ (c .before .before .before .before .before .before .before .before .before .before .before .before .before .before .before .before .before .before .before .before .before .before .before .pre .0 .valid) (c .before .before .before .before .before .before .before .before .before .assert-on .ensures .is)
+
+printed-requires : tie.Need-printed-requires
+printed-requires c κs = search needs
+
+enum-told-2 : tie.Need-enum-told-2
+enum-told-2 c = search needs
+
+put-assert-requires-2 : tie.Need-put-assert-requires-2
+put-assert-requires-2 c κs = asserted-below _ (c .before .before .before .before .before .before .before .before .before .before .before .before .before .before .before .before .before .before .before .before .before .before .before .pre .0 .valid) (c .before .before .before .before .before .before .before .before .before .assert-on .ensures .is)
+
+printed-requires-2 : tie.Need-printed-requires-2
+printed-requires-2 c κs = search needs
+
+enum-known-answer : tie.Need-enum-known-answer
+enum-known-answer c = search needs
+
+same-length : tie.Need-same-length
+same-length c = search needs
+
+same-length-2 : tie.Need-same-length-2
+same-length-2 c = search needs
+
+same-length-3 : tie.Need-same-length-3
+same-length-3 c = search needs
+
+returns : tie.Need-returns
+unfolding callOf
+returns c = step-on _ (c .before .before .before .before .before .before .before .before .before .before .before .before .before .before .before .before .before .before .before .before .before .before .before .before .before .before .before .pre .0 .valid) (answers-as assertAnswer (c .before .before .before .before .before .before .enum-told .given .1) (c .before .before .before .before .before .before .before .before .before .before .before .before .before .assert-on .ensures)) (c .before .before .before .before .before .before .before .before .before .before .before .before .before .before .before .before .before .before .before .before .before .before .before .before .before .before .before .args .c .at) (out (now (c .before .before .before .before .before .before .before .before .before .before .before .before .before .before .before .before .before .before .before .before .before .before .before .before .before .before .before .args .buf)) (c .before .before .before .before .before .before .before .before .before .before .before .before .before .before .before .before .before .before .before .before .before .before .before .before .before .before .before .args .c .text)) refl (c .before .before .before .put-assert .ensures) (c .printed .ensures)
+
+same-length-4 : tie.Need-same-length-4
+same-length-4 c = search needs
+
+same-length-5 : tie.Need-same-length-5
+same-length-5 c = search needs
+
+same-length-6 : tie.Need-same-length-6
+same-length-6 c = search needs
+
+returns-2 : tie.Need-returns-2
+unfolding callOf
+returns-2 c = step-on _ (c .before .before .before .before .before .before .before .before .before .before .before .before .before .before .before .before .before .before .before .before .before .before .before .before .before .before .before .pre .0 .valid) (answers-as assertAnswer (c .before .before .before .before .before .before .enum-told2 .given .1) (c .before .before .before .before .before .before .before .before .before .before .before .before .before .assert-on .ensures)) (c .before .before .before .before .before .before .before .before .before .before .before .before .before .before .before .before .before .before .before .before .before .before .before .before .before .before .before .args .c .at) (out (now (c .before .before .before .before .before .before .before .before .before .before .before .before .before .before .before .before .before .before .before .before .before .before .before .before .before .before .before .args .buf)) (c .before .before .before .before .before .before .before .before .before .before .before .before .before .before .before .before .before .before .before .before .before .before .before .before .before .before .before .args .c .text)) refl (c .before .before .before .put-assert2 .ensures) (c .printed2 .ensures)
+
+same-length-7 : tie.Need-same-length-7
+same-length-7 c = search needs
+
+same-length-8 : tie.Need-same-length-8
+same-length-8 c = search needs
+
+returns-3 : tie.Need-returns-3
+unfolding callOf
+returns-3 c = step-stop _ (c .before .before .before .before .before .before .before .before .before .before .before .before .before .before .before .before .before .before .before .before .before .before .args .c .at) (out (now (c .before .before .before .before .before .before .before .before .before .before .before .before .before .before .before .before .before .before .before .before .before .before .args .buf)) (c .before .before .before .before .before .before .before .before .before .before .before .before .before .before .before .before .before .before .before .before .before .before .args .c .text)) (answers-as assertAnswer (c .before .answer .given .1) (c .before .before .before .before .before .before .before .before .assert-on .ensures))
+
+pub do-assert-spec : {M : Type 1} → statement M
+do-assert-spec =
+    tie.close
+    (tie.spec
+    cast-a
+    mul-a
+    add-a
+    cast-d
+    mul-d
+    add-d
+    shared-slice-read-t24
+    sub-assert-on
+    part-assert-on-start
+    part-assert-on-end
+    mul-assert-on
+    sub-assert-on-2
+    part-assert-on-start-2
+    part-assert-on-end-2
+    assert-on-requires
+    enum-told
+    put-assert-requires
+    printed-requires
+    enum-told-2
+    put-assert-requires-2
+    printed-requires-2
+    enum-known-answer
+    same-length
+    same-length-2
+    same-length-3
+    returns
+    same-length-4
+    same-length-5
+    same-length-6
+    returns-2
+    same-length-7
+    same-length-8
+    returns-3)

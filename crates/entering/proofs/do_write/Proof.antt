@@ -1,0 +1,131 @@
+use Rattle.entering.proofs.StepLaws.{answers-as, step-on, step-stop}
+use Rattle.cases.proofs.CallLaws.{part-size}
+use Rattle.memory.specs.Contract.{writeAnswer}
+use Rattle.cases.specs.Case.{callOf}
+use Rattle.text.specs.Text.{out}
+use Prim.Native.Nat.{_+_, _*_}
+use mathlib.Core.Path.{refl}
+use native.Mathlib.Omega.{arith}
+use denote.Ref.{now}
+use borrow.Author.Needs.{needs}
+use Rattle.entering.proofs.do_write.Statement.{statement}
+use Rattle.entering.proofs.do_write.Tie as tie
+
+cast-a : tie.Need-cast-a
+cast-a c = search needs
+
+mul-a : tie.Need-mul-a
+mul-a c = search needs
+
+add-a : tie.Need-add-a
+add-a c = search needs
+
+cast-d : tie.Need-cast-d
+cast-d c = search needs
+
+mul-d : tie.Need-mul-d
+mul-d c = search needs
+
+add-d : tie.Need-add-d
+add-d c = search needs
+
+sub-write-on : tie.Need-sub-write-on
+sub-write-on c = search needs
+
+part-write-on-start : tie.Need-part-write-on-start
+part-write-on-start c = search needs
+
+part-write-on-end : tie.Need-part-write-on-end
+part-write-on-end c = search needs
+
+sub-write-on-2 : tie.Need-sub-write-on-2
+sub-write-on-2 c = search needs
+
+part-write-on-start-2 : tie.Need-part-write-on-start-2
+part-write-on-start-2 c = search needs
+
+part-write-on-end-2 : tie.Need-part-write-on-end-2
+part-write-on-end-2 c = search needs
+
+mul-write-on : tie.Need-mul-write-on
+mul-write-on c = search needs
+
+sub-write-on-3 : tie.Need-sub-write-on-3
+sub-write-on-3 c = search needs
+
+part-write-on-start-3 : tie.Need-part-write-on-start-3
+part-write-on-start-3 c = search needs
+
+part-write-on-end-3 : tie.Need-part-write-on-end-3
+part-write-on-end-3 c = search needs
+
+write-on-requires : tie.Need-write-on-requires
+write-on-requires c κs = (c .before .before .before .before .before .before .before .before .before .before .before .before .before .pre .0 .valid, c .before .before .before .before .before .before .before .before .before .before .before .before .before .pre .0 .sound, part-size (now (c .before .before .before .before .before .before .before .before .before .before .before .before .before .args .ops)) 0 (2) (omega (arith, c .before .before .before .before .before .before .before .before .before .before .before .before .before .pre .1)), part-size (now (c .before .before .before .before .before .before .before .before .before .before .before .before .before .args .ops)) 2 (2 * c .before .before .before .before .before .before .before .before .before .before .before .before .before .args .c .memory .n) (omega (arith, c .before .before .before .before .before .before .before .before .before .before .before .before .before .pre .1)), part-size (now (c .before .before .before .before .before .before .before .before .before .before .before .before .before .args .ops)) (2 + 2 * c .before .before .before .before .before .before .before .before .before .before .before .before .before .args .c .memory .n) (2 * c .before .before .before .before .before .before .before .before .before .before .before .before .before .args .c .memory .w) (omega (arith, c .before .before .before .before .before .before .before .before .before .before .before .before .before .pre .1)))
+
+enum-known-answer : tie.Need-enum-known-answer
+enum-known-answer c = search needs
+
+put-write-requires : tie.Need-put-write-requires
+put-write-requires c κs = search needs
+
+printed-requires : tie.Need-printed-requires
+printed-requires c κs = search needs
+
+enum-known-answer-2 : tie.Need-enum-known-answer-2
+enum-known-answer-2 c = search needs
+
+same-length : tie.Need-same-length
+same-length c = search needs
+
+same-length-2 : tie.Need-same-length-2
+same-length-2 c = search needs
+
+same-length-3 : tie.Need-same-length-3
+same-length-3 c = search needs
+
+returns : tie.Need-returns
+unfolding callOf
+returns c = step-on _ (c .before .before .before .before .before .before .before .before .before .before .before .before .before .before .before .before .before .before .before .before .before .before .before .before .before .before .before .pre .0 .valid) (answers-as writeAnswer (c .before .before .before .before .before .before .answer .given .1) (c .before .before .before .before .before .before .before .before .before .before .before .before .before .write-on .ensures)) (c .before .before .before .before .before .before .before .before .before .before .before .before .before .before .before .before .before .before .before .before .before .before .before .before .before .before .before .args .c .at) (out (now (c .before .before .before .before .before .before .before .before .before .before .before .before .before .before .before .before .before .before .before .before .before .before .before .before .before .before .before .args .buf)) (c .before .before .before .before .before .before .before .before .before .before .before .before .before .before .before .before .before .before .before .before .before .before .before .before .before .before .before .args .c .text)) refl (c .before .before .before .put-write .ensures) (c .printed .ensures)
+
+same-length-4 : tie.Need-same-length-4
+same-length-4 c = search needs
+
+same-length-5 : tie.Need-same-length-5
+same-length-5 c = search needs
+
+returns-2 : tie.Need-returns-2
+unfolding callOf
+returns-2 c = step-stop _ (c .before .before .before .before .before .before .before .before .before .before .before .before .before .before .before .before .before .before .before .before .before .before .args .c .at) (out (now (c .before .before .before .before .before .before .before .before .before .before .before .before .before .before .before .before .before .before .before .before .before .before .args .buf)) (c .before .before .before .before .before .before .before .before .before .before .before .before .before .before .before .before .before .before .before .before .before .before .args .c .text)) (answers-as writeAnswer (c .before .answer2 .given .1) (c .before .before .before .before .before .before .before .before .write-on .ensures))
+
+pub do-write-spec : {M : Type 1} → statement M
+do-write-spec =
+    tie.close
+    (tie.spec
+    cast-a
+    mul-a
+    add-a
+    cast-d
+    mul-d
+    add-d
+    sub-write-on
+    part-write-on-start
+    part-write-on-end
+    sub-write-on-2
+    part-write-on-start-2
+    part-write-on-end-2
+    mul-write-on
+    sub-write-on-3
+    part-write-on-start-3
+    part-write-on-end-3
+    write-on-requires
+    enum-known-answer
+    put-write-requires
+    printed-requires
+    enum-known-answer-2
+    same-length
+    same-length-2
+    same-length-3
+    returns
+    same-length-4
+    same-length-5
+    returns-2)

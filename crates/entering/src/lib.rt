@@ -1,0 +1,104 @@
+// A case between two accesses, and the accesses that may enter: a write and an assert, each with its line.
+ghost use mathlib.Core.Path.{_≡_};
+ghost use Prim.Native.Nat.{_+_, _*_};
+ghost use lib.ListN.{length};
+ghost use Rattle.text.specs.Text.{out};
+ghost use Rattle.reading.specs.declared.Kind.the-variants as kinds;
+ghost use Rattle.memory.specs.Contract.{stateOf};
+ghost use Rattle.cases.specs.Case.{callOf, done};
+ghost use Rattle.entering.specs.Contract.{printedAs, Ready, StepAs};
+use access::ControlNode;
+use conditions::Table;
+use memory::AssertAnswer;
+use memory::Record;
+use memory::WriteAnswer;
+use text::Text;
+
+// A case between two accesses: the memory, the text so far, and the byte with which the next access begins.
+pub struct Run {
+    pub memory: Record,
+    pub text: Text,
+    pub at: usize,
+}
+
+// After an access the case goes on, or is refused by this number.
+pub enum Step {
+    On(Run),
+    Refused(u32),
+}
+
+// After a line: its text may not have fitted.
+pub fn printed(memory: Record, text: Text, at: usize) -> Step
+    ensures { λ r. ⌜ r ≡ printedAs memory text at ⌝ }
+{
+    if text.full {
+        Step::Refused(13)
+    } else {
+        Step::On(Run { memory, text, at })
+    }
+}
+
+// A write, and its line.
+pub fn do_write(
+    words: &mut [u32],
+    list: &mut [u32],
+    table: &mut Table,
+    buf: &mut [u8],
+    c: Run,
+    ops: &[u32],
+) -> Step
+    requires { ⌜ Ready (c .memory) (now words) (now list) (now table) × (length (now ops) ≡ 2 + 2 * c .memory .n + 2 * c .memory .w) ⌝ }
+    ensures { λ r. ⌜ StepAs r (now (words .exit)) (now (list .exit)) (now (buf .exit)) (now (table .exit)) (done (callOf kinds.Write (c .memory .n) (c .memory .w) (now (ops .entry))) (stateOf (c .memory) (now (words .entry)) (now (list .entry))) (c .at) (out (now (buf .entry)) (c .text))) ⌝ }
+{
+    let memory = c.memory;
+    let a = 2 + 2 * (memory.n as usize);
+    let d = a + 2 * (memory.w as usize);
+    let r = memory.write_on(words, list, table, &ops[0..2], &ops[2..a], &ops[a..d]);
+    let after = r.after;
+    let answer = r.answer;
+    match answer {
+        WriteAnswer::Place(place) => {
+            let t = lines::put_write(buf, c.text, place);
+            printed(after, t, c.at)
+        }
+        WriteAnswer::Refused(k) => Step::Refused(k),
+    }
+}
+
+// An assert, and its line.
+pub fn do_assert(
+    words: &mut [u32],
+    list: &mut [u32],
+    table: &mut Table,
+    buf: &mut [u8],
+    c: Run,
+    ops: &[u32],
+) -> Step
+    requires { ⌜ Ready (c .memory) (now words) (now list) (now table) × (length (now ops) ≡ 1 + 2 * c .memory .n + 2 * c .memory .w) ⌝ }
+    ensures { λ r. ⌜ StepAs r (now (words .exit)) (now (list .exit)) (now (buf .exit)) (now (table .exit)) (done (callOf kinds.Assert (c .memory .n) (c .memory .w) (now (ops .entry))) (stateOf (c .memory) (now (words .entry)) (now (list .entry))) (c .at) (out (now (buf .entry)) (c .text))) ⌝ }
+{
+    let memory = c.memory;
+    let a = 1 + 2 * (memory.n as usize);
+    let d = a + 2 * (memory.w as usize);
+    let r = memory.assert_on(
+        words,
+        list,
+        table,
+        ControlNode(ops[0]),
+        &ops[1..a],
+        &ops[a..d],
+    );
+    let after = r.after;
+    let answer = r.answer;
+    match answer {
+        AssertAnswer::Entered => {
+            let t = lines::put_assert(buf, c.text, words, after.count, true, after.asserted);
+            printed(after, t, c.at)
+        }
+        AssertAnswer::Kept => {
+            let t = lines::put_assert(buf, c.text, words, after.count, false, after.asserted);
+            printed(after, t, c.at)
+        }
+        AssertAnswer::Refused(k) => Step::Refused(k),
+    }
+}

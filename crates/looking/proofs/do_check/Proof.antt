@@ -1,0 +1,116 @@
+use Rattle.entering.proofs.WordLaws.{checked-below}
+use Rattle.cases.proofs.CallLaws.{part-size}
+use Rattle.entering.proofs.StepLaws.{answers-as, step-on, step-stop}
+use Rattle.memory.specs.Contract.{checkAnswer}
+use Rattle.cases.specs.Case.{callOf}
+use Rattle.text.specs.Text.{out}
+use Prim.Native.Nat.{_+_, _*_}
+use mathlib.Core.Path.{refl}
+use native.Mathlib.Omega.{arith}
+use denote.Ref.{now}
+use borrow.Author.Needs.{needs}
+use Rattle.looking.proofs.do_check.Statement.{statement}
+use Rattle.looking.proofs.do_check.Tie as tie
+
+cast-a : tie.Need-cast-a
+cast-a c = search needs
+
+mul-a : tie.Need-mul-a
+mul-a c = search needs
+
+add-a : tie.Need-add-a
+add-a c = search needs
+
+cast-d : tie.Need-cast-d
+cast-d c = search needs
+
+mul-d : tie.Need-mul-d
+mul-d c = search needs
+
+add-d : tie.Need-add-d
+add-d c = search needs
+
+shared-slice-read-t21 : tie.Need-shared-slice-read-t21
+shared-slice-read-t21 c = search needs
+
+sub-check-on : tie.Need-sub-check-on
+sub-check-on c = search needs
+
+part-check-on-start : tie.Need-part-check-on-start
+part-check-on-start c = search needs
+
+part-check-on-end : tie.Need-part-check-on-end
+part-check-on-end c = search needs
+
+mul-check-on : tie.Need-mul-check-on
+mul-check-on c = search needs
+
+sub-check-on-2 : tie.Need-sub-check-on-2
+sub-check-on-2 c = search needs
+
+part-check-on-start-2 : tie.Need-part-check-on-start-2
+part-check-on-start-2 c = search needs
+
+part-check-on-end-2 : tie.Need-part-check-on-end-2
+part-check-on-end-2 c = search needs
+
+check-on-requires : tie.Need-check-on-requires
+check-on-requires c κs = (c .before .before .before .before .before .before .before .before .before .before .before .before .pre .0 .valid, c .before .before .before .before .before .before .before .before .before .before .before .before .pre .0 .sound, part-size (now (c .before .before .before .before .before .before .before .before .before .before .before .before .args .ops)) 1 (2 * c .before .before .before .before .before .before .before .before .before .before .before .before .args .c .memory .n) (omega (arith, c .before .before .before .before .before .before .before .before .before .before .before .before .pre .1)), part-size (now (c .before .before .before .before .before .before .before .before .before .before .before .before .args .ops)) (1 + 2 * c .before .before .before .before .before .before .before .before .before .before .before .before .args .c .memory .n) (2 * c .before .before .before .before .before .before .before .before .before .before .before .before .args .c .memory .w) (omega (arith, c .before .before .before .before .before .before .before .before .before .before .before .before .pre .1)))
+
+enum-told : tie.Need-enum-told
+enum-told c = search needs
+
+put-check-requires : tie.Need-put-check-requires
+put-check-requires c κs = checked-below _ (c .before .before .before .before .before .before .before .before .before .before .before .before .before .before .before .before .before .before .before .before .pre .0 .valid) (c .before .before .before .before .before .before .before .check-on .ensures .is)
+
+printed-requires : tie.Need-printed-requires
+printed-requires c κs = search needs
+
+enum-known-answer : tie.Need-enum-known-answer
+enum-known-answer c = search needs
+
+same-length : tie.Need-same-length
+same-length c = search needs
+
+same-length-2 : tie.Need-same-length-2
+same-length-2 c = search needs
+
+returns : tie.Need-returns
+unfolding callOf
+returns c = step-on _ (c .before .before .before .before .before .before .before .before .before .before .before .before .before .before .before .before .before .before .before .before .before .before .before .before .pre .0 .valid) (answers-as checkAnswer (c .before .before .before .before .before .before .enum-told .given .1) (c .before .before .before .before .before .before .before .before .before .before .before .check-on .ensures)) (c .before .before .before .before .before .before .before .before .before .before .before .before .before .before .before .before .before .before .before .before .before .before .before .before .args .c .at) (out (now (c .before .before .before .before .before .before .before .before .before .before .before .before .before .before .before .before .before .before .before .before .before .before .before .before .args .buf)) (c .before .before .before .before .before .before .before .before .before .before .before .before .before .before .before .before .before .before .before .before .before .before .before .before .args .c .text)) refl (c .before .before .before .put-check .ensures) (c .printed .ensures)
+
+same-length-3 : tie.Need-same-length-3
+same-length-3 c = search needs
+
+returns-2 : tie.Need-returns-2
+unfolding callOf
+returns-2 c = step-stop _ (c .before .before .before .before .before .before .before .before .before .before .before .before .before .before .before .before .before .before .before .args .c .at) (out (now (c .before .before .before .before .before .before .before .before .before .before .before .before .before .before .before .before .before .before .before .args .buf)) (c .before .before .before .before .before .before .before .before .before .before .before .before .before .before .before .before .before .before .before .args .c .text)) (answers-as checkAnswer (c .before .answer .given .1) (c .before .before .before .before .before .before .check-on .ensures))
+
+pub do-check-spec : {M : Type 1} → statement M
+do-check-spec =
+    tie.close
+    (tie.spec
+    cast-a
+    mul-a
+    add-a
+    cast-d
+    mul-d
+    add-d
+    shared-slice-read-t21
+    sub-check-on
+    part-check-on-start
+    part-check-on-end
+    mul-check-on
+    sub-check-on-2
+    part-check-on-start-2
+    part-check-on-end-2
+    check-on-requires
+    enum-told
+    put-check-requires
+    printed-requires
+    enum-known-answer
+    same-length
+    same-length-2
+    returns
+    same-length-3
+    returns-2)

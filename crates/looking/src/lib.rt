@@ -1,0 +1,94 @@
+// The accesses of a case that enter nothing: a read and a check, each with its line.
+ghost use Prim.Native.Nat.{_+_, _*_};
+ghost use mathlib.Core.Path.{_≡_};
+ghost use lib.ListN.{length, replicate};
+ghost use Rattle.text.specs.Text.{out};
+ghost use Rattle.reading.specs.declared.Kind.the-variants as kinds;
+ghost use Rattle.memory.specs.Contract.{stateOf};
+ghost use Rattle.cases.specs.Case.{callOf, done};
+ghost use Rattle.entering.specs.Contract.{Ready, StepAs};
+use access::ControlNode;
+use conditions::Table;
+use entering::Run;
+use entering::Step;
+use memory::CheckAnswer;
+use memory::ReadAnswer;
+
+// A read, and its line, with the word that it fills.
+fn read_into(
+    words: &mut [u32],
+    list: &[u32],
+    table: &mut Table,
+    buf: &mut [u8],
+    c: Run,
+    ops: &[u32],
+    word: &mut [u32],
+) -> Step
+    requires { ⌜ Ready (c .memory) (now words) (now list) (now table) × (length (now ops) ≡ 2 + 2 * c .memory .n) × (now word ≡ replicate (2 * c .memory .w) 0) ⌝ }
+    ensures { λ r. ⌜ StepAs r (now (words .exit)) (now (list .entry)) (now (buf .exit)) (now (table .exit)) (done (callOf kinds.Read (c .memory .n) (c .memory .w) (now (ops .entry))) (stateOf (c .memory) (now (words .entry)) (now (list .entry))) (c .at) (out (now (buf .entry)) (c .text))) ⌝ }
+{
+    let memory = c.memory;
+    let a = 2 + 2 * (memory.n as usize);
+    let r = memory.read_on(words, list, table, &ops[0..2], &ops[2..a], word);
+    let after = r.after;
+    let answer = r.answer;
+    match answer {
+        ReadAnswer::Filled => {
+            let t = lines::put_read(buf, c.text, words, after.count, word);
+            entering::printed(after, t, c.at)
+        }
+        ReadAnswer::Refused(k) => Step::Refused(k),
+    }
+}
+
+// A read, and its line; the word is its own.
+pub fn do_read(
+    words: &mut [u32],
+    list: &[u32],
+    table: &mut Table,
+    buf: &mut [u8],
+    c: Run,
+    ops: &[u32],
+) -> Step
+    requires { ⌜ Ready (c .memory) (now words) (now list) (now table) × (length (now ops) ≡ 2 + 2 * c .memory .n) ⌝ }
+    ensures { λ r. ⌜ StepAs r (now (words .exit)) (now (list .entry)) (now (buf .exit)) (now (table .exit)) (done (callOf kinds.Read (c .memory .n) (c .memory .w) (now (ops .entry))) (stateOf (c .memory) (now (words .entry)) (now (list .entry))) (c .at) (out (now (buf .entry)) (c .text))) ⌝ }
+{
+    let memory = c.memory;
+    let size = 2 * (memory.w as usize);
+    let mut word: [u32; 32] = [0; 32];
+    read_into(words, list, table, buf, c, ops, &mut word[..size])
+}
+
+// A check, and its line.
+pub fn do_check(
+    words: &mut [u32],
+    list: &[u32],
+    table: &mut Table,
+    buf: &mut [u8],
+    c: Run,
+    ops: &[u32],
+) -> Step
+    requires { ⌜ Ready (c .memory) (now words) (now list) (now table) × (length (now ops) ≡ 1 + 2 * c .memory .n + 2 * c .memory .w) ⌝ }
+    ensures { λ r. ⌜ StepAs r (now (words .exit)) (now (list .entry)) (now (buf .exit)) (now (table .exit)) (done (callOf kinds.Check (c .memory .n) (c .memory .w) (now (ops .entry))) (stateOf (c .memory) (now (words .entry)) (now (list .entry))) (c .at) (out (now (buf .entry)) (c .text))) ⌝ }
+{
+    let memory = c.memory;
+    let a = 1 + 2 * (memory.n as usize);
+    let d = a + 2 * (memory.w as usize);
+    let r = memory.check_on(
+        words,
+        list,
+        table,
+        ControlNode(ops[0]),
+        &ops[1..a],
+        &ops[a..d],
+    );
+    let after = r.after;
+    let answer = r.answer;
+    match answer {
+        CheckAnswer::Accepted => {
+            let t = lines::put_check(buf, c.text, words, after.count, after.checked);
+            entering::printed(after, t, c.at)
+        }
+        CheckAnswer::Refused(k) => Step::Refused(k),
+    }
+}
