@@ -5,13 +5,14 @@ use mathlib.Core.List.{List, []}
 use Prim.Native.Nat.{ℕ, zero, suc}
 use mir.Val.{boolByte}
 use Rattle.model.specs.Record as model
-use Rattle.model.specs.Step.{Call, evaluate, read, Answer, Result, step, answerWords, fresh}
+use Rattle.model.specs.Step.{evaluate, read, Call, access, nodeCall, Answer, Result, step, answerWords, fresh}
+use Rattle.model.specs.Chain.{Answered}
 use Rattle.memory.specs.declared.Record.{Record}
 use Rattle.memory.specs.declared.ValueAnswer.{ValueAnswer}
 use Rattle.memory.specs.declared.ValueAnswer.the-variants as value
 use Rattle.memory.specs.declared.ReadAnswer.{ReadAnswer}
 use Rattle.memory.specs.declared.ReadAnswer.the-variants as reads
-use Rattle.memory.specs.Contract.{recordOf, stateOf, numbered, readAnswer, valueAnswer, Answers, AnswersNoList, ReadAnswers}
+use Rattle.memory.specs.Contract.{recordOf, stateOf, numbered, readAnswer, valueAnswer, AnswersNoList, ReadAnswers}
 use Rattle.memory.specs.Contract as memory
 use Rattle.capi.specs.Words.{recordIn, wordsOf}
 use Rattle.capi.specs.Contract.{numberOf, outOf, left, leftBy, called, evaluatedBy, evaluated, freshed}
@@ -20,7 +21,7 @@ use Rattle.capi.specs.Contract.{numberOf, outOf, left, leftBy, called, e
 pub call-is : {A : Type 0} (g : A → Answer) {x y : A} (c : Call) {m m′ : Record} {r′ w′ l′ : List ℕ} (r w l a : List ℕ) (v : ℕ)
     → x ≡ y
     → recordOf m ≡ recordIn r
-    → Answers c (stateOf m w l) (stateOf m′ w′ l′) (g x)
+    → Answered c (stateOf m w l) (stateOf m′ w′ l′) (g x)
     → r′ ≡ wordsOf (recordOf m′)
     → left (numberOf (g y)) r′ w′ l′ (answerWords (g y) a) (outOf (g y) v) ≡ called c r w l a v
 unfolding called
@@ -37,7 +38,7 @@ pub evaluate-is : {A : Type 0} (g : A → Answer) {x y : A} (f φ : ℕ) {m m′
     → AnswersNoList (evaluate f φ) m w m′ w (g x)
     → (numberOf (g y), outOf (g y) v) ≡ evaluated f φ r w v
 unfolding evaluated
-evaluate-is g f φ r w v e i n = ap evaluatedBy (call-is g (evaluate f φ) r w [] [] v e i (n []) refl)
+evaluate-is g f φ r w v e i n = ap evaluatedBy (call-is g (nodeCall (evaluate f φ)) r w [] [] v e i (n []) refl)
 
 -- the number that a truth value is
 as-number : (t : Bool) → boolByte t ≡ cond t 1 0
@@ -57,11 +58,11 @@ pub read-is : {x : ReadAnswer} (y : ReadAnswer) {m m′ : Record} {r′ w′ a�
     → recordOf m ≡ recordIn r
     → ReadAnswers m w l e d a m′ w′ a′ x
     → r′ ≡ wordsOf (recordOf m′)
-    → left (numberOf (readAnswer y a′)) r′ w′ l a′ 0 ≡ called (read e d a) r w l a 0
-read-is reads.Filled {a′ = a′} r w l e d a p i n o = call-is (λ (z : ReadAnswer). readAnswer z a′) (read e d a) r w l a 0 p i (n .is) o
+    → left (numberOf (readAnswer y a′)) r′ w′ l a′ 0 ≡ called (access (read e d a)) r w l a 0
+read-is reads.Filled {a′ = a′} r w l e d a p i n o = call-is (λ (z : ReadAnswer). readAnswer z a′) (access (read e d a)) r w l a 0 p i (n .is) o
 read-is {x} (reads.Refused k) {r′ = r′} {w′ = w′} {a′ = a′} r w l e d a p i n o =
     ap (λ (z : List ℕ). left k r′ w′ l z 0) (n .leaves ∙ ap (λ (z : ReadAnswer). answerWords (readAnswer z a′) a) p)
-    ∙ call-is (λ (z : ReadAnswer). readAnswer z a′) (read e d a) r w l a 0 p i (n .is) o
+    ∙ call-is (λ (z : ReadAnswer). readAnswer z a′) (access (read e d a)) r w l a 0 p i (n .is) o
 
 number-back : (k : ℕ) → numberOf (numbered k) ≡ k
 number-back zero = refl

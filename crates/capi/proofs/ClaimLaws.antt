@@ -6,7 +6,7 @@ use native.Mathlib.Omega.{arith}
 use Prim.Native.Nat.{ℕ, zero, suc}
 use lib.ListN.{length}
 use Rattle.model.specs.Record as model
-use Rattle.model.specs.Step.{State, Call, Answer, refused, place, filled, entered, kept, accepted, valued, node, isRefused, step, freshRows, freshRecord, freshUnless, fresh}
+use Rattle.model.specs.Step.{State, Call, Answer, refused, done, isRefused, step, freshRows, freshRecord, freshUnless, fresh}
 use Rattle.model.specs.Frames.{clears, wordsAfter, RefusalLeaves, RefusalNumber}
 use Rattle.model.proofs.FrameLaws.{refusal-leaves, refusal-number}
 use Rattle.capi.specs.Words.{recordIn, wordsOf, stateIn}
@@ -27,13 +27,7 @@ words-back (x0 ∷ x1 ∷ x2 ∷ x3 ∷ x4 ∷ x5 ∷ x6 ∷ l) p = absurd (omeg
 zero-goes : (c : Call) (s : State) (x : Answer) → step c s .answer ≡ x → numberOf x ≡ 0 → isRefused x ≡ false
 unfolding RefusalNumber
 zero-goes c s (refused k) p q = absurd (omega (arith, q, refusal-number c s k p .0))
-zero-goes c s (place k) p q = refl
-zero-goes c s (filled r) p q = refl
-zero-goes c s entered p q = refl
-zero-goes c s kept p q = refl
-zero-goes c s accepted p q = refl
-zero-goes c s (valued b) p q = refl
-zero-goes c s (node n) p q = refl
+zero-goes c s (done g) p q = refl
 
 pub zero-accepts : ZeroAccepts
 unfolding ZeroAccepts called
@@ -42,13 +36,7 @@ zero-accepts c r w l a v e = zero-goes c (stateIn r w l) (step c (stateIn r w l)
 -- an answer whose number is a row's is refused by it
 numbered-refused : (x : Answer) (k : ℕ) → numberOf x ≡ suc k → x ≡ refused (suc k)
 numbered-refused (refused j) k q = ap refused q
-numbered-refused (place j) k q = absurd (omega (arith, q))
-numbered-refused (filled r) k q = absurd (omega (arith, q))
-numbered-refused entered k q = absurd (omega (arith, q))
-numbered-refused kept k q = absurd (omega (arith, q))
-numbered-refused accepted k q = absurd (omega (arith, q))
-numbered-refused (valued b) k q = absurd (omega (arith, q))
-numbered-refused (node n) k q = absurd (omega (arith, q))
+numbered-refused (done g) k q = absurd (omega (arith, q))
 
 refused-as : (c : Call) (r w l a : List ℕ) (v k : ℕ) → length r ≡ 6 → step c (stateIn r w l) .answer ≡ refused (suc k)
     → leftBy (step c (stateIn r w l)) a v ≡ left (suc k) r (wordsAfter (clears c (suc k)) (stateIn r w l)) l a v

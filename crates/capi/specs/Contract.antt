@@ -2,31 +2,29 @@
 use mathlib.Core.Bool.{cond}
 use mathlib.Core.List.{List, []}
 use Prim.Native.Nat.{ℕ}
-use Rattle.model.specs.Step.{Call, evaluate, Answer, refused, place, filled, entered, kept, accepted, valued, node, Result, step, answerWords, Fresh, fresh}
+use Rattle.model.specs.Step.{evaluate, Call, nodeCall, Given, place, filled, entered, kept, accepted, valued, node, Answer, refused, done, Result, step, answerWords, Fresh, fresh}
 use Rattle.cases.specs.Case.{Answered, accepts, refuses, caseOf}
 use Rattle.capi.specs.Words.{recordIn, wordsOf, stateIn}
 
 -- "0 for accepted or the row's number"
 abbrev pub numberOf : Answer → ℕ
 numberOf (refused k) = k
-numberOf (place k) = 0
-numberOf (filled r) = 0
-numberOf entered = 0
-numberOf kept = 0
-numberOf accepted = 0
-numberOf (valued b) = 0
-numberOf (node n) = 0
+numberOf (done g) = 0
 
--- the out-word that held v: "Where a call is refused, out-words are untouched"; "`value` is 0 or 1; `entered` is 1, or 0 for kept"
+-- the out-word that held v: "`value` is 0 or 1; `entered` is 1, or 0 for kept"
+abbrev pub givenOut : Given → ℕ → ℕ
+givenOut (place k) v = k
+givenOut (filled r) v = v
+givenOut entered v = 1
+givenOut kept v = 0
+givenOut accepted v = v
+givenOut (valued b) v = cond b 1 0
+givenOut (node n) v = n
+
+-- "Where a call is refused, out-words are untouched"
 abbrev pub outOf : Answer → ℕ → ℕ
 outOf (refused k) v = v
-outOf (place k) v = k
-outOf (filled r) v = v
-outOf entered v = 1
-outOf kept v = 0
-outOf accepted v = v
-outOf (valued b) v = cond b 1 0
-outOf (node n) v = n
+outOf (done g) v = givenOut g v
 
 -- what a function returns, and what it leaves in the record's words, node words, list, answer words and out-word; [] or 0 where it is lent none
 pub record Left : Type 0 where
@@ -52,7 +50,7 @@ abbrev pub evaluatedBy : Left → ℕ × ℕ
 evaluatedBy x = (x .number, x .out)
 
 unfoldable pub evaluated : ℕ → ℕ → List ℕ → List ℕ → ℕ → ℕ × ℕ
-evaluated f φ r w v = evaluatedBy (called (evaluate f φ) r w [] [] v)
+evaluated f φ r w v = evaluatedBy (called (nodeCall (evaluate f φ)) r w [] [] v)
 
 -- Fresh: the number, the record's words and the node words
 abbrev pub freshBy : Fresh → ℕ × List ℕ × List ℕ

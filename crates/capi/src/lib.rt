@@ -1,7 +1,7 @@
 // The calls for C: the record is six words, and every function returns 0 for accepted or the row's number.
 ghost use mathlib.Core.Path.{_≡_};
 ghost use mathlib.Core.List.{[]};
-ghost use Rattle.model.specs.Step.{ite, write, read, assert, check};
+ghost use Rattle.model.specs.Step.{ite, write, read, assert, check, access, nodeCall};
 ghost use Rattle.model.specs.Step as step;
 ghost use Rattle.memory.specs.Contract.{recordOf};
 ghost use Rattle.capi.specs.Words.{recordIn, wordsOf};
@@ -60,7 +60,7 @@ pub extern "C" fn md_variable(
     variable: u32,
     node: &mut u32,
 ) -> u32
-    ensures { λ r. ⌜ left r (now («record» .exit)) (now (nodes .exit)) [] [] (now (node .exit)) ≡ called (step.variable variable) (now («record» .entry)) (now (nodes .entry)) [] [] (now (node .entry)) ⌝ }
+    ensures { λ r. ⌜ left r (now («record» .exit)) (now (nodes .exit)) [] [] (now (node .exit)) ≡ called (nodeCall (step.variable variable)) (now («record» .entry)) (now (nodes .entry)) [] [] (now (node .entry)) ⌝ }
 {
     let x = record_of(record).variable(nodes, variable);
     put_record(record, x.after);
@@ -84,7 +84,7 @@ pub extern "C" fn md_ite(
     h: u32,
     node: &mut u32,
 ) -> u32
-    ensures { λ r. ⌜ left r (now («record» .exit)) (now (nodes .exit)) [] [] (now (node .exit)) ≡ called (ite f g h) (now («record» .entry)) (now (nodes .entry)) [] [] (now (node .entry)) ⌝ }
+    ensures { λ r. ⌜ left r (now («record» .exit)) (now (nodes .exit)) [] [] (now (node .exit)) ≡ called (nodeCall (ite f g h)) (now («record» .entry)) (now (nodes .entry)) [] [] (now (node .entry)) ⌝ }
 {
     let x = record_of(record).ite(nodes, f, g, h);
     put_record(record, x.after);
@@ -131,7 +131,7 @@ pub extern "C" fn md_write(
     data: &[u32],
     place: &mut u32,
 ) -> u32
-    ensures { λ r. ⌜ left r (now («record» .exit)) (now (nodes .exit)) (now (list .exit)) [] (now (place .exit)) ≡ called (write (now (enable .entry)) (now (address .entry)) (now («data» .entry))) (now («record» .entry)) (now (nodes .entry)) (now (list .entry)) [] (now (place .entry)) ⌝ }
+    ensures { λ r. ⌜ left r (now («record» .exit)) (now (nodes .exit)) (now (list .exit)) [] (now (place .exit)) ≡ called (access (write (now (enable .entry)) (now (address .entry)) (now («data» .entry)))) (now («record» .entry)) (now (nodes .entry)) (now (list .entry)) [] (now (place .entry)) ⌝ }
 {
     let x = record_of(record).write(nodes, list, enable, address, data);
     put_record(record, x.after);
@@ -155,7 +155,7 @@ pub extern "C" fn md_check(
     address: &[u32],
     data: &[u32],
 ) -> u32
-    ensures { λ r. ⌜ left r (now («record» .exit)) (now (nodes .exit)) (now (list .entry)) [] 0 ≡ called (check b (now (address .entry)) (now («data» .entry))) (now («record» .entry)) (now (nodes .entry)) (now (list .entry)) [] 0 ⌝ }
+    ensures { λ r. ⌜ left r (now («record» .exit)) (now (nodes .exit)) (now (list .entry)) [] 0 ≡ called (access (check b (now (address .entry)) (now («data» .entry)))) (now («record» .entry)) (now (nodes .entry)) (now (list .entry)) [] 0 ⌝ }
 {
     let x = record_of(record).check(nodes, list, ControlNode(b), address, data);
     put_record(record, x.after);
@@ -177,7 +177,7 @@ pub extern "C" fn md_assert(
     data: &[u32],
     entered: &mut u32,
 ) -> u32
-    ensures { λ r. ⌜ left r (now («record» .exit)) (now (nodes .exit)) (now (list .exit)) [] (now (entered .exit)) ≡ called (assert b (now (address .entry)) (now («data» .entry))) (now («record» .entry)) (now (nodes .entry)) (now (list .entry)) [] (now (entered .entry)) ⌝ }
+    ensures { λ r. ⌜ left r (now («record» .exit)) (now (nodes .exit)) (now (list .exit)) [] (now (entered .exit)) ≡ called (access (assert b (now (address .entry)) (now («data» .entry)))) (now («record» .entry)) (now (nodes .entry)) (now (list .entry)) [] (now (entered .entry)) ⌝ }
 {
     let x = record_of(record).assert(nodes, list, ControlNode(b), address, data);
     put_record(record, x.after);
@@ -205,7 +205,7 @@ pub extern "C" fn md_read(
     address: &[u32],
     answer: &mut [u32],
 ) -> u32
-    ensures { λ r. ⌜ left r (now («record» .exit)) (now (nodes .exit)) (now (list .entry)) (now (answer .exit)) 0 ≡ called (read (now (enable .entry)) (now (address .entry)) (now (answer .entry))) (now («record» .entry)) (now (nodes .entry)) (now (list .entry)) (now (answer .entry)) 0 ⌝ }
+    ensures { λ r. ⌜ left r (now («record» .exit)) (now (nodes .exit)) (now (list .entry)) (now (answer .exit)) 0 ≡ called (access (read (now (enable .entry)) (now (address .entry)) (now (answer .entry)))) (now («record» .entry)) (now (nodes .entry)) (now (list .entry)) (now (answer .entry)) 0 ⌝ }
 {
     let x = record_of(record).read(nodes, list, enable, address, answer);
     put_record(record, x.after);

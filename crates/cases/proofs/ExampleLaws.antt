@@ -6,22 +6,15 @@ use lib.ListN.{replicate}
 use Rattle.text.specs.Text.{put, written}
 use Rattle.text.specs.Text as text
 use Rattle.text.specs.Decimal.{decimal, digits}
-use Rattle.nodes.specs.Words.{hasWords}
-use Rattle.nodes.specs.Search.{seek, every}
-use Rattle.nodes.specs.Standard.{counted, terminals, childFits, shaped, lowest, first, isStandard}
-use Rattle.conditions.specs.Build.{next, forEach}
-use Rattle.conditions.specs.Make.{Make}
-use Rattle.conditions.specs.Ite.{plainOf, partOf, iteBy, iteUpTo, Ite}
-use Rattle.conditions.specs.Any.{stopOf, anyBy, anyUpTo, Any}
-use Rattle.conditions.specs.User.{isUser}
-use Rattle.conditions.specs.Meet.{judgeOf, meetsBy, meetsUpTo, meets, neither}
+use Rattle.conditions.specs.Computing.{computing}
 use Rattle.conditions.specs.Value.{grow, treeOf}
 use Rattle.conditions.specs.Show.{show}
 use Rattle.lines.specs.Lines.{writeLine, bitText, bitsText, readLine, checkLine, endLine}
 use Rattle.model.specs.Record.{listCapacity, appended}
 use Rattle.model.specs.Access.{uniqueBit, Unique, Certain, Write, narrowBit, Narrow, halfStep, EachHalf, mergeHalf, entryStep, settleHalf, Look, maskHalf, Read, insideHalf, Inside, Check}
 use Rattle.model.specs.Rows.{row1, row3}
-use Rattle.model.specs.Step.{orNine, act, step}
+use Rattle.model.specs.Step.{unlessFull, finishAccess, step}
+use Rattle.model.specs.Step as model
 use Rattle.reading.specs.Bytes.{numberAt, numbersAt}
 use Rattle.reading.specs.Kinds.{kindOf, sizeOf}
 use Rattle.reading.specs.Accesses.{accessAt}
@@ -43,9 +36,8 @@ case = caseOf example (replicate 48 7) (replicate 6 7) (replicate 45 7)
 
 pub example-prints : (case .answer ≡ accepts 43 (record { n = 1; w = 1; count = 10; entries = 1; asserted = 1; checked = 3 })) × (case .text ≡ lines ++ 7 ∷ 7 ∷ [])
 unfolding
-    put written text.appended decimal digits hasWords seek every counted terminals childFits shaped lowest first isStandard
-    next forEach Make plainOf partOf iteBy iteUpTo Ite stopOf anyBy anyUpTo Any isUser judgeOf meetsBy meetsUpTo meets neither grow treeOf show
+    put written text.appended decimal digits computing grow treeOf show
     writeLine bitText bitsText readLine checkLine endLine
     listCapacity appended uniqueBit Unique Certain Write narrowBit Narrow halfStep EachHalf mergeHalf entryStep settleHalf Look Read insideHalf Inside Check
-    row1 row3 orNine act step numberAt numbersAt kindOf sizeOf accessAt withNodes sections callOf done one rest last whole caseOf
+    row1 row3 model.closed unlessFull finishAccess step numberAt numbersAt kindOf sizeOf accessAt withNodes sections callOf done one rest last whole caseOf
 example-prints = (refl, refl)

@@ -11,8 +11,8 @@ use borrow.Author.Tests.{eqb-true, eq-eqb}
 use Rattle.nodes.proofs.BoolLaws.{and-both, or-cases, both-and}
 use Rattle.model.specs.Record.{part}
 use Rattle.model.specs.Rows.{Row, firstRow, writeRows, readRows, assertRows, checkRows, evaluateRows}
-use Rattle.model.specs.Step.{State, Call, refused, refusal, step, run}
-use Rattle.model.specs.Frames.{Valid, RefusalNumber, NoRow123, RefusedByRow, late, lacksSpace, overflows}
+use Rattle.model.specs.Step.{State, Call, refused, refusal, Finish, full, short, gives, finish, step, run}
+use Rattle.model.specs.Frames.{Valid, RefusalNumber, NoRow123, RefusedByRow, lateRow}
 use Rattle.model.proofs.FrameLaws.{refusal-number, no-row-123}
 use Rattle.model.proofs.StayLaws.{refused-by-row}
 use Rattle.reading.specs.declared.Kind.{Kind}
@@ -102,15 +102,14 @@ module _ (n w : ℕ) (ops : List ℕ) (s : State) (en : s .rec .n ≡ n) (ew : s
   unfolding RefusedByRow
   not-four k z e = go (or-cases (eqb (refusal (callOf k n w ops) s) 4) _ (refused-by-row (callOf k n w ops) s 4 e))
     where
-      none : (x y : Bool) → (x && false || y && false) ≡ true → ⊥
-      none true true e = false≢true e
-      none true false e = false≢true e
-      none false true e = false≢true e
-      none false false e = false≢true e
+      none : (x : Finish) → eqb (lateRow x) 4 ≡ true → ⊥
+      none (full t) e = false≢true e
+      none short e = false≢true e
+      none (gives g t) e = false≢true e
 
-      go : (eqb (refusal (callOf k n w ops) s) 4 ≡ true) ⊎ ((eqb (refusal (callOf k n w ops) s) 0 && late (callOf k n w ops) s 4) ≡ true) → ⊥
+      go : (eqb (refusal (callOf k n w ops) s) 4 ≡ true) ⊎ ((eqb (refusal (callOf k n w ops) s) 0 && eqb (lateRow (finish (callOf k n w ops) s)) 4) ≡ true) → ⊥
       go (inl q) = row-four k z (eqb-true _ 4 q)
-      go (inr q) = none (lacksSpace (callOf k n w ops) s) (overflows (callOf k n w ops) s) (and-both (eqb (refusal (callOf k n w ops) s) 0) _ q .1)
+      go (inr q) = none (finish (callOf k n w ops) s) (and-both (eqb (refusal (callOf k n w ops) s) 0) _ q .1)
 
 -- n and w stay
 run-sizes : (cs : List Call) (s : State) → AllAccepted cs s → (run cs s .rec .n ≡ s .rec .n) × (run cs s .rec .w ≡ s .rec .w)

@@ -1,11 +1,11 @@
 -- The ways in which an access at a running case's place can go.
 use mathlib.Core.Path.{_≡_, refl, sym, ap, subst, _∙_}
-use mathlib.Core.Bool.{Bool, true, false, cond}
+use mathlib.Core.Bool.{Bool, true, false, cond, true≢false, false≢true}
 use mathlib.Core.List.{List}
 use Prim.Native.Nat.{ℕ}
 use native.Mathlib.Omega.{arith}
 use Rattle.text.specs.Text.{Out, appended}
-use Rattle.model.specs.Step.{State, Call, Answer, place, filled, entered, kept, accepted, valued, node, isRefused, step}
+use Rattle.model.specs.Step.{State, Call, Answer, isRefused, step}
 use Rattle.model.specs.Step as model
 use Rattle.reading.specs.declared.Kind.{Kind}
 use Rattle.reading.specs.Accesses.{Found, found, endOf, accessAt, goesOnFrom}
@@ -16,14 +16,8 @@ use Rattle.cases.specs.Claims.{callAt, StandsAt}
 
 -- an answer that is no refusal
 pub said-printed : (a : Answer) (s : State) (at : ℕ) (o : Out) → isRefused a ≡ false → said a s at o ≡ printed s at (appended (lineOf a s) o)
-said-printed (model.refused k) s at o e = let z : _≡_ {A = Bool} true false = e in absurd (subst (λ (b : Bool). cond b (Unit {0}) ⊥) z tt)
-said-printed (place k) s at o e = refl
-said-printed (filled r) s at o e = refl
-said-printed entered s at o e = refl
-said-printed kept s at o e = refl
-said-printed accepted s at o e = refl
-said-printed (valued b) s at o e = refl
-said-printed (node n) s at o e = refl
+said-printed (model.refused k) s at o e = absurd (true≢false e)
+said-printed (model.done g) s at o e = refl
 
 -- the call at a running case's place
 abbrev pub callHere : List ℕ → Running → Call
@@ -56,13 +50,7 @@ record Numbered (a : Answer) : Type 0 where
 
 numbered : (a : Answer) → isRefused a ≡ true → Numbered a
 numbered (model.refused k) e = record { number = k; is = refl }
-numbered (place k) e = let z : _≡_ {A = ℕ} 0 1 = cc in absurd (omega arith)
-numbered (filled r) e = let z : _≡_ {A = ℕ} 0 1 = cc in absurd (omega arith)
-numbered entered e = let z : _≡_ {A = ℕ} 0 1 = cc in absurd (omega arith)
-numbered kept e = let z : _≡_ {A = ℕ} 0 1 = cc in absurd (omega arith)
-numbered accepted e = let z : _≡_ {A = ℕ} 0 1 = cc in absurd (omega arith)
-numbered (valued b) e = let z : _≡_ {A = ℕ} 0 1 = cc in absurd (omega arith)
-numbered (node n) e = let z : _≡_ {A = ℕ} 0 1 = cc in absurd (omega arith)
+numbered (model.done g) e = absurd (false≢true e)
 
 -- an access that is found stands there
 found-stands : (file : List ℕ) (at n w : ℕ) {k : Kind} {from : ℕ} → accessAt file at n w ≡ found k from → StandsAt file n w at

@@ -7,7 +7,7 @@ use lib.ListN.{length, getD, take, replicate}
 use Rattle.text.specs.Text.{Out, growing, appended}
 use Rattle.lines.specs.Lines.{writeLine, readLine, assertLine, checkLine, endLine, refusedLine}
 use Rattle.model.specs.Record.{Record, part}
-use Rattle.model.specs.Step.{State, Call, write, read, assert, check, evaluate, Answer, place, filled, entered, kept, accepted, valued, node, step}
+use Rattle.model.specs.Step.{State, write, read, assert, check, evaluate, Call, access, nodeCall, Given, place, filled, entered, kept, accepted, valued, node, Answer, step}
 use Rattle.model.specs.Step as step
 use Rattle.reading.specs.declared.Kind.{Kind}
 use Rattle.reading.specs.declared.Kind.the-variants as kind
@@ -20,22 +20,25 @@ use Rattle.reading.specs.Sections as sections
 
 -- "Then the control pair (b alone for 3 and 4), address, data (none for a read)": the call with these nodes. A read is lent words of its own. No access of an unknown kind is found
 unfoldable pub callOf : Kind → ℕ → ℕ → List ℕ → Call
-callOf kind.Write n w ops = write (part ops 0 2) (part ops 2 (2 + 2 * n)) (part ops (2 + 2 * n) (2 + 2 * n + 2 * w))
-callOf kind.Read n w ops = read (part ops 0 2) (part ops 2 (2 + 2 * n)) (replicate (2 * w) 0)
-callOf kind.Assert n w ops = assert (getD ops 0 0) (part ops 1 (1 + 2 * n)) (part ops (1 + 2 * n) (1 + 2 * n + 2 * w))
-callOf kind.Check n w ops = check (getD ops 0 0) (part ops 1 (1 + 2 * n)) (part ops (1 + 2 * n) (1 + 2 * n + 2 * w))
-callOf kind.Unknown n w ops = evaluate 0 0
+callOf kind.Write n w ops = access (write (part ops 0 2) (part ops 2 (2 + 2 * n)) (part ops (2 + 2 * n) (2 + 2 * n + 2 * w)))
+callOf kind.Read n w ops = access (read (part ops 0 2) (part ops 2 (2 + 2 * n)) (replicate (2 * w) 0))
+callOf kind.Assert n w ops = access (assert (getD ops 0 0) (part ops 1 (1 + 2 * n)) (part ops (1 + 2 * n) (1 + 2 * n + 2 * w)))
+callOf kind.Check n w ops = access (check (getD ops 0 0) (part ops 1 (1 + 2 * n)) (part ops (1 + 2 * n) (1 + 2 * n + 2 * w)))
+callOf kind.Unknown n w ops = nodeCall (evaluate 0 0)
 
 -- "Lines: a write's entry place; a read's h:l for each bit ..; the check condition". "An assert prints `assert entered` or `assert kept`, a space, the assert condition.": the line of an access by its answer and the state after it
+abbrev pub givenLine : Given → State → List ℕ
+givenLine (place k) s = writeLine k
+givenLine (filled r) s = readLine (s .words) r
+givenLine entered s = assertLine (s .words) true (s .rec .asserted)
+givenLine kept s = assertLine (s .words) false (s .rec .asserted)
+givenLine accepted s = checkLine (s .words) (s .rec .checked)
+givenLine (valued b) s = []
+givenLine (node n) s = []
+
 abbrev pub lineOf : Answer → State → List ℕ
 lineOf (step.refused k) s = []
-lineOf (place k) s = writeLine k
-lineOf (filled r) s = readLine (s .words) r
-lineOf entered s = assertLine (s .words) true (s .rec .asserted)
-lineOf kept s = assertLine (s .words) false (s .rec .asserted)
-lineOf accepted s = checkLine (s .words) (s .rec .checked)
-lineOf (valued b) s = []
-lineOf (node n) s = []
+lineOf (step.done g) s = givenLine g s
 
 -- a case between two accesses: the state, the byte of the file with which the next access begins, and the text so far
 pub record Running : Type 0 where
@@ -55,13 +58,7 @@ printed s at o = cond (o .text .full) (stops 13) (goes (record { state = s; at =
 -- a refused access refuses the case; the line of another is printed
 abbrev pub said : Answer → State → ℕ → Out → Next
 said (step.refused k) s at o = stops k
-said (place k) s at o = printed s at (appended (lineOf (place k) s) o)
-said (filled r) s at o = printed s at (appended (lineOf (filled r) s) o)
-said entered s at o = printed s at (appended (lineOf entered s) o)
-said kept s at o = printed s at (appended (lineOf kept s) o)
-said accepted s at o = printed s at (appended (lineOf accepted s) o)
-said (valued b) s at o = printed s at (appended (lineOf (valued b) s) o)
-said (node n) s at o = printed s at (appended (lineOf (node n) s) o)
+said (step.done g) s at o = printed s at (appended (givenLine g s) o)
 
 -- "Each access is read, done and printed in turn.": the call is done, tests included, and its line printed; the next access begins at this byte
 unfoldable pub done : Call → State → ℕ → Out → Next

@@ -11,7 +11,7 @@ use Rattle.conditions.specs.Assignment.{bitAt}
 use Rattle.lines.specs.Lines.{endLine, refusedLine}
 use Rattle.model.specs.Record.{Record}
 use Rattle.model.specs.Step.{State, Call, Answer, refused, isRefused, step, run}
-use Rattle.model.specs.Array.{Run, outcomes, Allowed}
+use Rattle.model.specs.Array.{Run, observed, Allowed}
 use Rattle.model.specs.Claims.{events, Exactly}
 use Rattle.reading.specs.Bytes.{numbersAt}
 use Rattle.reading.specs.Kinds.{sizeOf}
@@ -156,7 +156,7 @@ CasePrints = (file words list text : List ℕ)
 pub record CaseExact (file words list : List ℕ) (r : Record) (c : Case) (φ : ℕ → Bool) : Type 0 where
   pub calls : Exactly (stateIn file words list) (callsIn file) φ
   pub checking : T (value (c .words) φ (r .checked))
-      ↔ ((q : Run (getD file 1 0) (events φ (stateIn file words list) (callsIn file))) (j : ℕ) → Allowed (outcomes (getD file 1 0) (events φ (stateIn file words list) (callsIn file)) q j))
+      ↔ ((q : Run (getD file 1 0) (events φ (stateIn file words list) (callsIn file))) (j : ℕ) → Allowed (observed (getD file 1 0) (events φ (stateIn file words list) (callsIn file)) q j))
 
 unfoldable pub CaseExactly : Type 0
 CaseExactly = (file words list text : List ℕ) (k : ℕ) (r : Record) → caseOf file words list text .answer ≡ accepts k r → (a : ℕ) → a < 2 ^ 64 → CaseExact file words list r (caseOf file words list text) (bitAt a)

@@ -5,7 +5,7 @@ use mathlib.Core.List.{List}
 use Prim.Native.Nat.{ℕ}
 use Rattle.text.specs.declared.Text.{Text}
 use Rattle.text.specs.Text.{Out, out, appended}
-use Rattle.model.specs.Step.{State, Call, Answer, refused, isRefused, Result, step}
+use Rattle.model.specs.Step.{State, Access, access, Answer, refused, isRefused, Result, step}
 use Rattle.model.specs.Frames.{Valid}
 use Rattle.memory.specs.declared.Record.{Record}
 use Rattle.memory.specs.Contract.{stateOf, AnswersOn}
@@ -17,11 +17,11 @@ use Rattle.cases.proofs.WayLaws.{said-printed}
 use Rattle.entering.proofs.WordLaws.{after-valid}
 
 -- the answer of a call by its kind
-pub answers-as : {A : Type 0} (g : A → Answer) {c : Call} {s t : State} {x y : A} {table : List ℕ} → x ≡ y → AnswersOn c s t (g x) table → AnswersOn c s t (g y) table
+pub answers-as : {A : Type 0} (g : A → Answer) {c : Access} {s t : State} {x y : A} {table : List ℕ} → x ≡ y → AnswersOn c s t (g x) table → AnswersOn c s t (g y) table
 answers-as g {c} {s} {t} {table = table} e N = subst (λ x. AnswersOn c s t (g x) table) e N
 
-module _ (c : Call) {s : State} {a : Answer} {m : Record} {w l table : List ℕ} (K : Valid s) (N : AnswersOn c s (stateOf m w l) a table) (at : ℕ) (o : Out) where
-  done-is : done c s at o ≡ said a (stateOf m w l) at o
+module _ (c : Access) {s : State} {a : Answer} {m : Record} {w l table : List ℕ} (K : Valid s) (N : AnswersOn c s (stateOf m w l) a table) (at : ℕ) (o : Out) where
+  done-is : done (access c) s at o ≡ said a (stateOf m w l) at o
   unfolding done
   done-is = ap (λ (x : Result). said (x .answer) (x .after) at o) (N .is)
 
@@ -38,14 +38,14 @@ module _ (c : Call) {s : State} {a : Answer} {m : Record} {w l table : List ℕ}
       where
         go : (f : Bool) → ReadyNext (cond f (steps.Refused 13) (steps.On (record { memory = m; text = t; at = at }))) w l table
         go true = tt
-        go false = record { valid = after-valid c K (N .is); sound = N .sound f }
+        go false = record { valid = after-valid (access c) K (N .is); sound = N .sound f }
 
     -- accepted, and printed as it is
-    pub step-on : StepAs r w l b table (done c s at o)
+    pub step-on : StepAs r w l b table (done (access c) s at o)
     step-on = record { is = next-is ∙ ap (printed (stateOf m w l) at) p ∙ sym (said-printed a (stateOf m w l) at o f) ∙ sym done-is; ready = next-ready }
 
 -- refused
-pub step-stop : (c : Call) {s t : State} {k : ℕ} {w l b table : List ℕ} (at : ℕ) (o : Out) → AnswersOn c s t (refused k) table → StepAs (steps.Refused k) w l b table (done c s at o)
+pub step-stop : (c : Access) {s t : State} {k : ℕ} {w l b table : List ℕ} (at : ℕ) (o : Out) → AnswersOn c s t (refused k) table → StepAs (steps.Refused k) w l b table (done (access c) s at o)
 unfolding done
 step-stop c at o N = record { is = sym (ap (λ (x : Result). said (x .answer) (x .after) at o) (N .is)); ready = tt }
 

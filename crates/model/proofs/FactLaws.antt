@@ -72,6 +72,19 @@ pub not-both : (k : ℕ) (fs : List Fact) → AllHold fs → FirstFails k fs →
 not-both k [] a x = x
 not-both k (f ∷ fs) a x = either (λ y. y .1 (a .0)) (λ y. not-both k fs (a .1) (y .1)) x
 
+-- each test of the rows holds
+abbrev pub RowsHold : List Row → Type 0
+RowsHold [] = Unit {0}
+RowsHold (t ∷ ts) = (t .1 ≡ true) × RowsHold ts
+
+pub rows-hold : (ts : List Row) → numbered ts ≡ true → firstRow ts ≡ 0 → RowsHold ts
+rows-hold [] q e = tt
+rows-hold (t ∷ ts) q e = go (t .1) refl e (and-both _ _ q) (rows-hold ts)
+  where
+    go : (b : Bool) → t .1 ≡ b → cond b (firstRow ts) (t .0) ≡ 0 → (ltb 0 (t .0) ≡ true) × (numbered ts ≡ true) → (numbered ts ≡ true → firstRow ts ≡ 0 → RowsHold ts) → (t .1 ≡ true) × RowsHold ts
+    go true z e n f = (z, f (n .1) e)
+    go false z e n f = absurd (omega (arith, ltb-true 0 (t .0) (n .0)))
+
 -- rows that follow others are asked where none of those refuses
 pub first-append : (ts us : List Row) → numbered ts ≡ true → firstRow ts ≡ 0 → firstRow (ts ++ us) ≡ firstRow us
 first-append [] us q e = refl

@@ -9,7 +9,7 @@ use lib.ListN.{length}
 use borrow.Author.Tests.{lt-ltb, le-ltb, lt-leb, le-leb, leb-true}
 use Rattle.nodes.proofs.TestLaws.{test-fails, test-holds}
 use Rattle.model.specs.Rows.{firstRow}
-use Rattle.model.proofs.RowLaws.{rows-hold}
+use Rattle.model.proofs.FactLaws.{rows-hold}
 use Rattle.reading.specs.declared.Kind.{Kind}
 use Rattle.reading.specs.declared.Access.{Access}
 use Rattle.reading.specs.declared.Access.the-variants.{Here, Refused}

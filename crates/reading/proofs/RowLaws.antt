@@ -7,7 +7,7 @@ use native.Mathlib.Omega.{arith}
 use lib.Dec.{ltb}
 use Rattle.nodes.proofs.BoolLaws.{and-both}
 use Rattle.model.specs.Rows.{Row, firstRow}
-use Rattle.model.proofs.RowLaws.{numbered, rows-hold}
+use Rattle.model.proofs.FactLaws.{numbered, rows-hold}
 
 -- a row that refuses does so whatever rows come after it
 pub rows-refuse : (ts us : List Row) {k : ℕ} → firstRow ts ≡ suc k → firstRow (ts ++ us) ≡ suc k

@@ -21,7 +21,7 @@ use Rattle.model.specs.Rows.{firstRow, row1}
 use Rattle.model.specs.Step.{State}
 use Rattle.model.specs.Claims.{Begins}
 use Rattle.model.specs.Frames.{Valid}
-use Rattle.model.proofs.RowLaws.{rows-hold}
+use Rattle.model.proofs.FactLaws.{rows-hold}
 use Rattle.model.proofs.ThirdLaws.{is-third}
 use Rattle.reading.specs.declared.Loaded.{Loaded}
 use Rattle.reading.specs.declared.Loaded.the-variants.{Ready}

@@ -7,7 +7,8 @@ use Rattle.nodes.specs.Words.{withNode, withTerminals}
 use Rattle.nodes.specs.Standard.{counted}
 use Rattle.model.specs.Record.{Record}
 use Rattle.model.specs.Rows.{Row, firstRow, row1, row2}
-use Rattle.model.specs.Step.{freshRecord, counted as withCount}
+use Rattle.model.specs.Record.{withCount}
+use Rattle.model.specs.Step.{freshRecord}
 use Rattle.reading.specs.declared.Loaded.{Loaded}
 use Rattle.reading.specs.declared.Loaded.the-variants as loaded
 use Rattle.reading.specs.Bytes.{numberAt}

@@ -1,5 +1,5 @@
 use Rattle.capi.proofs.CallLaws.{call-is}
-use Rattle.model.specs.Step.{assert}
+use Rattle.model.specs.Step.{assert, access}
 use Rattle.memory.specs.Contract.{assertAnswer}
 use mathlib.Core.List.{[]}
 use denote.Ref.{now}

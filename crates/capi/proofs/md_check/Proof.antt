@@ -1,5 +1,5 @@
 use Rattle.capi.proofs.CallLaws.{call-is}
-use Rattle.model.specs.Step.{check}
+use Rattle.model.specs.Step.{check, access}
 use Rattle.memory.specs.Contract.{checkAnswer}
 use mathlib.Core.List.{[]}
 use denote.Ref.{now}

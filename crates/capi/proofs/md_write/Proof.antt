@@ -1,5 +1,5 @@
 use Rattle.capi.proofs.CallLaws.{call-is}
-use Rattle.model.specs.Step.{write}
+use Rattle.model.specs.Step.{write, access}
 use Rattle.memory.specs.Contract.{writeAnswer}
 use mathlib.Core.List.{[]}
 use denote.Ref.{now}

@@ -1,5 +1,5 @@
 use Rattle.looking.proofs.ZeroLaws.{zeros-part}
-use Rattle.memory.proofs.CallLaws.{valid-few}
+use Rattle.rows.proofs.CallLaws.{valid-few}
 use lib.ListN.{length-take}
 use Prim.Native.Nat.{_*_}
 use native.Mathlib.Omega.{arith}

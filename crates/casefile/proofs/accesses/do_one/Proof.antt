@@ -1,7 +1,7 @@
 use Rattle.casefile.proofs.RestLaws.{step-here, one-missing}
 use Rattle.reading.proofs.AccessLaws.{access-here}
 use Rattle.reading.proofs.KindLaws.{size-most}
-use Rattle.memory.proofs.CallLaws.{valid-few}
+use Rattle.rows.proofs.CallLaws.{valid-few}
 use lib.ListN.{length-take}
 use native.Mathlib.Omega.{arith}
 use denote.Ref.{now}
