@@ -41,11 +41,11 @@ from concurrent.futures import ThreadPoolExecutor
 
 import casetext
 from reference import TEXT_BYTES
-from rowcases import ROOT
 
 VERDICTS = AGREED, DIFFERS, HUNG, CRASHED = "agreed", "differs", "hung", "crashed"
 NO_VERDICT = "-"
 
+ROOT = os.path.dirname(os.path.dirname(os.path.abspath(__file__)))
 MEMCASE = os.path.join(ROOT, "target", "bin", "memcase")
 JUDGE = "memcase"
 

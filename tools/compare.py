@@ -6,7 +6,7 @@
 PROGRAM (with its arguments) is run on each case file on its standard input; what it
 writes to standard output must be what the reference says `memcase` prints.  A program
 that ends with a status other than 0, is ended by a signal, or does not end in T
-seconds differs.  The stored cases of `cases/` that `memcase` runs come first, then N
+seconds differs.  The stored cases (storedcases.py) that `memcase` runs come first, then N
 random ones, valid and damaged; case i of seed S is the same each time.  The first
 differences are printed, and the case files of all go to FOLDER where one is given.
 The status is 1 where anything differs.
@@ -18,9 +18,9 @@ import subprocess
 import sys
 from collections import Counter
 
-import cases
 from randomcases import random_bytes
 from reference import memcase
+from storedcases import all_cases
 
 SHOWN = 5
 SHOWN_BYTES = 400
@@ -40,10 +40,9 @@ def answer(program, data, timeout):
 
 def stored_cases():
     """Name, bytes and expected text of the stored cases that `memcase` runs."""
-    for line in cases.read_file("manifest").decode("ascii").splitlines():
-        name, file, through = line.split(" ", 3)[:3]
-        if through == "memcase":
-            yield name, cases.read_file(file + ".case"), cases.read_file(name + ".out").decode("ascii")
+    for case in all_cases():
+        if case.through == "memcase":
+            yield case.name, case.data, case.out
 
 
 def random_cases(seed, count):
@@ -103,12 +102,12 @@ def main():
     def ask(data):
         return answer(options.program, data, options.timeout)
 
-    def all_cases():
+    def wanted():
         if not options.no_stored:
             yield from stored_cases()
         yield from random_cases(options.seed, options.count)
 
-    different, kinds = compare(all_cases(), ask, options.keep)
+    different, kinds = compare(wanted(), ask, options.keep)
     for kind, number in sorted(kinds.items(), key=lambda item: (len(item[0]), item[0])):
         print("%6d %s" % (number, kind))
     print("%d cases, %d differ" % (sum(kinds.values()), different))
