@@ -24,6 +24,8 @@ from rowcases import WORKED
 
 WORKED_TEXT = b"write 0\nread 1:(8 0 1)\ncheck (8 1 0)\nend 1\n"
 
+NOT_WHOLE = "wrote no whole text: its last line is neither `end N` nor a refusal alone"
+
 # Long enough for a right simulator on a machine with other work.
 SECONDS = 10
 # Short, for those that do not end.
@@ -43,8 +45,8 @@ def simulator(way):
 
 
 def run(way, data=WORKED, seconds=SECONDS):
-    """One run of a simulator, by the arbiter's own function."""
-    return arbiter.run(shlex.split(simulator(way)), data, seconds)
+    """What one run of a simulator wrote and how it failed, by the arbiter's own function."""
+    return arbiter.run(shlex.split(simulator(way)), data, seconds)[:3]
 
 
 class Folders(unittest.TestCase):
@@ -211,7 +213,10 @@ class Verdicts(Folders):
         """No verdict is counted, though the simulators are right or wrong."""
         for way, how in (("hangs", "hung: it had not ended after 0.5 seconds"),
                          ("ends-with-status", "crashed: it ended with status 1: has expired"),
-                         ("writes-without-end", "wrote more than 65536 bytes")):
+                         ("writes-without-end", "wrote more than 65536 bytes"),
+                         ("complains", "wrote to standard error: warning"),
+                         ("breaks-off", NOT_WHOLE), ("refuses-after-text", NOT_WHOLE),
+                         ("writes-nothing", NOT_WHOLE)):
             with self.subTest(way):
                 self.expect(2, [
                     "case         first    second",
@@ -280,7 +285,7 @@ class Runs(unittest.TestCase):
         self.assertEqual(opened, (WORKED_TEXT, *not_ended))
         self.assertEqual(closed, (WORKED_TEXT, *not_ended))
         self.assertEqual(left[1:], (arbiter.HUNG, "its output was still open after 2 seconds"))
-        self.assert_ends(int(left.out))
+        self.assert_ends(int(left[0]))
 
     def assert_ends(self, process):
         """A killed process is gone soon."""
@@ -293,7 +298,7 @@ class Runs(unittest.TestCase):
     def test_the_output_is_bounded(self):
         begun = time.monotonic()
         found = run("writes-without-end", seconds=60)
-        self.assertEqual((len(found.out), found.failure), (TEXT_BYTES + 1, None))
+        self.assertEqual((len(found[0]), found[1]), (TEXT_BYTES + 1, None))
         self.assertLess(time.monotonic() - begun, 30)
 
     def test_input_not_read(self):
@@ -307,6 +312,26 @@ def alive(process):
             return file.read().rpartition(")")[2].split()[0] != "Z"
     except FileNotFoundError:
         return False
+
+
+class Comparing(unittest.TestCase):
+    """What compare.py makes of a program that is right, wrong, or complains."""
+
+    def test_faults(self):
+        for way, status, last in (("right", 0, "3 cases, 0 differ"), ("loses-unknown", 1, "3 cases, 1 differ"),
+                                  ("complains", 2, "3 cases, 0 differ, 3 without a verdict"),
+                                  ("ends-with-status-after-text", 1, "3 cases, 3 differ"),
+                                  ("breaks-off", 1, "3 cases, 3 differ")):
+            with self.subTest(way):
+                words = [sys.executable, os.path.join(TOOLS, "compare.py"), "--no-stored", "--count", "3", "--seed", "1"]
+                done = subprocess.run(words + shlex.split(simulator(way)), stdout=subprocess.PIPE, check=False)
+                self.assertEqual((done.returncode, done.stdout.decode("ascii").splitlines()[-1]), (status, last))
+
+    def test_whole_texts(self):
+        whole = [b"end 0\n", WORKED_TEXT, b"refused 13 after 7\n"]
+        broken = [b"", b"end 0", b"end\n", b"end 01\n", b"write 0\n", b"refused 1 after 0", b"refused 1 after 0\nend 1\n",
+                  b"end 1\nrefused 1 after 0\n", b"\nend 1\n", b"end 1\n\n"]
+        self.assertEqual([text for text in whole + broken if arbiter.WHOLE.fullmatch(text)], whole)
 
 
 class Lines(unittest.TestCase):

@@ -84,6 +84,16 @@ def complains_without_end():
         sys.stderr.write("warning\n" * 1000)
 
 
+def breaks_off():
+    """The right text without its last line."""
+    write("".join(right_text().splitlines(keepends=True)[:-1]))
+
+
+def refuses_after_text():
+    """A refusal that does not stand alone."""
+    write("write 0\nrefused 9 after 1\n")
+
+
 def reads_nothing():
     pass
 
@@ -94,7 +104,7 @@ def writes_nothing():
 
 WAYS = [right, loses_unknown, hangs, hangs_after_text, hangs_with_output_closed, leaves_child, ends_by_signal,
         ends_with_status, ends_with_status_after_text, writes_without_end, complains, complains_without_end,
-        reads_nothing, writes_nothing]
+        breaks_off, refuses_after_text, reads_nothing, writes_nothing]
 
 
 if __name__ == "__main__":
