@@ -11,7 +11,7 @@ from collections import namedtuple
 
 import build
 
-sys.path.insert(0, build.TOOLS)
+sys.path[:0] = [build.TOOLS, build.TESTS]
 import randomcases  # noqa: E402
 from casefile import CaseFile, ONE, X, ZERO, number_bits  # noqa: E402
 from derivedcases import OneAssignment, many_variables  # noqa: E402

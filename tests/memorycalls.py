@@ -416,12 +416,13 @@ def largest_stores():
         one_at_0(name, record_of(1, 1, count, 0), nodes, [7] * 6)
 
 
-GROUPS = [row_1, row_2, row_3, row_4, row_5, row_6, row_7, row_8, row_9, order, order_in_assert, order_unlisted,
-          rulings, largest_sizes, lists, most_entries, largest_stores]
+SMALL = [row_1, row_2, row_3, row_4, row_5, row_6, row_7, row_8, row_9, order, order_in_assert, order_unlisted]
+GROUPS = SMALL + [rulings, largest_sizes, lists, most_entries, largest_stores]
 
 
-def script():
-    for group in GROUPS:
+def script(groups=GROUPS):
+    S.__init__()
+    for group in groups:
         group()
     return S
 

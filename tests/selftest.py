@@ -13,9 +13,11 @@ from contextlib import contextmanager
 
 from rooms import ROOT
 import calls
+import callscript
 import cases
 import casetext
 import derivedcases
+import memorycalls
 import plain
 import randomcases
 import reference
@@ -268,6 +270,34 @@ WRONG = [
 ]
 
 
+def index_nodes_taken(_right, nodes, words):
+    return any(word >= len(nodes) for word in words)
+
+
+def nothing_cleared(right, call, record, words, entries):
+    left = right(call, record, words, entries)
+    return left._replace(nodes=list(words)) if left.number else left
+
+
+def conditions_kept(right, self):
+    return right(self)._replace(assert_condition=1, check_condition=1)
+
+
+def one_entry_less(right, n, w, list_words):
+    return max(0, right(n, w, list_words) - 1)
+
+
+WRONG_CALLS = [
+    (calls.Memory, "enter", never_enters),
+    (calls.Memory, "need_space", one_entry_more),
+    (calls.Memory, "record", conditions_kept),
+    (tables.Conditions, "add", no_last_node),
+    (calls, "row_5", index_nodes_taken),
+    (calls, "list_capacity", one_entry_less),
+    (callscript, "run", nothing_cleared),
+]
+
+
 @contextmanager
 def planted(place, name, wrong):
     """The reference with one function of it replaced by a wrong one."""
@@ -296,6 +326,14 @@ class WrongPrograms(unittest.TestCase):
             if wrong not in (no_last_node, one_entry_more):
                 with planted(place, name, wrong):
                     self.assertTrue(any(memcase(data) != text for data, text in expected), wrong.__name__)
+
+
+    def test_stored_calls_find_each(self):
+        """Each wrong program of the calls answers or leaves something else somewhere."""
+        right = memorycalls.script(memorycalls.SMALL).output()
+        for place, name, wrong in WRONG_CALLS:
+            with planted(place, name, wrong):
+                self.assertTrue(memorycalls.script(memorycalls.SMALL).output() != right, wrong.__name__)
 
 
 def derived(case):
