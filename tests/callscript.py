@@ -14,7 +14,7 @@ The input has items of eight numbers of four bytes, low byte first.  There are f
 A call is run TIMES times, each from where the last left off, and the record goes from call to call.
 The out-word is 7 before a call.
 
-A line for each item of a call: `call I: ROW OUT; RECORD`, the record as six numbers, and for each run
+A line for each item of a call: `call I ROW OUT RECORD`, the record as six numbers, and for each run
 of words that was changed in a buffer `; nodes PLACE: WORDS`, likewise list and data.
 """
 
@@ -112,7 +112,7 @@ class Script:
 
     def line(self, call, left):
         words = " ".join(str(x) for x in left.record)
-        text = "call %d: %d %d; %s" % (len(self.names) - 1, left.number, OUT if left.out is None else left.out, words)
+        text = "call %d %d %d %s" % (len(self.names) - 1, left.number, OUT if left.out is None else left.out, words)
         for name, buffer in SHOWN:
             old = self.buffers[buffer]
             new = {NODES: left.nodes, LIST: left.list, DATA: left.data}[buffer]

@@ -69,9 +69,10 @@ fn conditional(
     Done { row, out, record }
 }
 
-// The item's c is the length of the enable, or the condition b.
+// A write, a read, an assert or a check.
 fn ask(
-    x: Item,
+    kind: u32,
+    b: u32,
     r: [u32; 6],
     nodes: &mut [u32],
     list: &mut [u32],
@@ -79,13 +80,10 @@ fn ask(
     address: &[u32],
     data: &mut [u32],
 ) -> Done {
-    if x.kind < 3 {
-        return enabled(x.kind, r, nodes, list, enable, address, data);
+    if kind < 3 {
+        return enabled(kind, r, nodes, list, enable, address, data);
     }
-    if x.kind < 5 {
-        return conditional(x.kind, r, nodes, list, x.c, address, data);
-    }
-    node_call(x, r, nodes)
+    conditional(kind, r, nodes, list, b, address, data)
 }
 
 // A length, or the most that it may be.
@@ -96,7 +94,7 @@ fn length(x: u32, most: usize) -> usize
     if k < most { k } else { most }
 }
 
-// A call whose slices have the lengths that the item says.
+// An access whose slices have the lengths that the item says; its c is the length of the enable, or b.
 fn lend(
     x: Item,
     r: [u32; 6],
@@ -112,7 +110,8 @@ fn lend(
     let a = length(x.d, address.len());
     let d = length(x.e, data.len());
     ask(
-        x,
+        x.kind,
+        x.c,
         r,
         &mut nodes[..m],
         &mut list[..k],
@@ -120,6 +119,27 @@ fn lend(
         &address[..a],
         &mut data[..d],
     )
+}
+
+// A call that is lent so many node words.
+fn lend_nodes(x: Item, r: [u32; 6], nodes: &mut [u32]) -> Done {
+    let m = length(x.a, nodes.len());
+    node_call(x, r, &mut nodes[..m])
+}
+
+fn once(
+    x: Item,
+    r: [u32; 6],
+    nodes: &mut Words,
+    list: &mut Words,
+    enable: &Words,
+    address: &Words,
+    data: &mut Words,
+) -> Done {
+    if x.kind < 5 {
+        return lend(x, r, nodes, list, enable, address, data);
+    }
+    lend_nodes(x, r, nodes)
 }
 
 // The same call so many times, each from where the one before it left off; the last.
@@ -140,7 +160,7 @@ fn repeat(
     let mut left = x.f;
     while left > 0 {
         let record = done.record;
-        done = lend(x, record, nodes, list, enable, address, data);
+        done = once(x, record, nodes, list, enable, address, data);
         left -= 1;
     }
     done

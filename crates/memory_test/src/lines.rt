@@ -7,10 +7,8 @@ use stored::word;
 pub fn call(number: u32, row: u32, out: u32) {
     bytes(b"call");
     word(number);
-    bytes(b":");
     word(row);
     word(out);
-    bytes(b";");
 }
 
 pub fn record(r: &[u32; 6]) {

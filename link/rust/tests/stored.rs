@@ -77,7 +77,7 @@ impl Buffers {
         let before = self.words.clone();
         let (row, out) = (0..numbers[6]).fold((0, OUT), |_, _| self.call(numbers));
         let Record { n, w, nodes, entries, asserted, checked } = self.record;
-        let mut line = format!("call {}: {row} {out}; {n} {w} {nodes} {entries} {asserted} {checked}", numbers[7]);
+        let mut line = format!("call {} {row} {out} {n} {w} {nodes} {entries} {asserted} {checked}", numbers[7]);
         for (name, buffer) in [("nodes", 0), ("list", 1), ("data", 4)] {
             put_changes(&mut line, name, &before[buffer], &self.words[buffer]);
         }

@@ -11,8 +11,8 @@ abbrev μ-loop : tie.MeasureT-loop
 loop-holds : tie.Need-loop-holds Inv-loop μ-loop
 loop-holds c = search needs
 
-lend-requires : tie.Need-lend-requires Inv-loop μ-loop
-lend-requires c κs = search needs
+once-requires : tie.Need-once-requires Inv-loop μ-loop
+once-requires c κs = search needs
 
 sub-left : tie.Need-sub-left Inv-loop μ-loop
 sub-left c = search needs
@@ -29,4 +29,4 @@ returns c = search needs
 pub repeat-spec : {M : Type 1} → statement M
 repeat-spec =
     tie.close
-    (tie.spec Inv-loop μ-loop loop-holds lend-requires sub-left loop-less loop-again returns)
+    (tie.spec Inv-loop μ-loop loop-holds once-requires sub-left loop-less loop-again returns)
