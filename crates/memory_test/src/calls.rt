@@ -69,23 +69,6 @@ fn conditional(
     Done { row, out, record }
 }
 
-// A write, a read, an assert or a check.
-fn ask(
-    kind: u32,
-    b: u32,
-    r: [u32; 6],
-    nodes: &mut [u32],
-    list: &mut [u32],
-    enable: &[u32],
-    address: &[u32],
-    data: &mut [u32],
-) -> Done {
-    if kind < 3 {
-        return enabled(kind, r, nodes, list, enable, address, data);
-    }
-    conditional(kind, r, nodes, list, b, address, data)
-}
-
 // A length, or the most that it may be.
 fn length(x: u32, most: usize) -> usize
     ensures { λ k. ⌜ k ≤ most ⌝ }
@@ -109,15 +92,25 @@ fn lend(
     let e = length(x.c, enable.len());
     let a = length(x.d, address.len());
     let d = length(x.e, data.len());
-    ask(
+    if x.kind < 3 {
+        return enabled(
+            x.kind,
+            r,
+            &mut nodes[..m],
+            &mut list[..k],
+            &enable[..e],
+            &address[..a],
+            &mut data[..d],
+        );
+    }
+    conditional(
         x.kind,
-        x.c,
         r,
         &mut nodes[..m],
         &mut list[..k],
-        &enable[..e],
+        x.c,
         &address[..a],
-        &mut data[..d],
+        &data[..d],
     )
 }
 
