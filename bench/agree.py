@@ -17,7 +17,6 @@ from collections import Counter
 import build
 
 sys.path.insert(0, build.TOOLS)
-import compare  # noqa: E402
 from reference import memcase, run_case  # noqa: E402
 from randomcases import random_bytes  # noqa: E402
 from storedcases import all_cases  # noqa: E402

@@ -20,7 +20,7 @@ of words that was changed in a buffer `; nodes PLACE: WORDS`, likewise list and 
 
 import sys
 
-from calls import ASSERT, CHECK, EVALUATE, READ, WRITE, Record, run
+from calls import ASSERT, CHECK, EVALUATE, READ, WRITE, run
 
 LENGTH = 49160
 NODES, LIST, CONTROL, ADDRESS, DATA = range(5)

@@ -7,7 +7,8 @@ variables, and the self test holds the same cases with fewer to truth tables.
 
 import rooms  # noqa: F401
 from casefile import CaseFile, ONE, X, ZERO
-from reference import LIST_WORDS, NODE_WORDS, TEXT_BYTES, Record, refused_line, run_case
+from calls import Record
+from reference import LIST_WORDS, NODE_WORDS, TEXT_BYTES, refused_line, run_case
 from stored import Stored
 
 

@@ -19,7 +19,7 @@ import tempfile
 from collections import Counter
 
 import rooms  # noqa: F401
-from calls import (ASSERT, CHECK, EVALUATE, FRESH, ITE, NAMES, READ, VARIABLE, WRITE, Call, Record, entry_size, run)
+from calls import (ASSERT, CHECK, EVALUATE, FRESH, ITE, NAMES, READ, VARIABLE, WRITE, Call, entry_size, run)
 from randomcalls import (Shape, State, Words, access, any_call, call, damage, memory, no_memory, shape, store,
                          user_variables)
 from randomcases import random_bytes

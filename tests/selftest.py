@@ -26,7 +26,8 @@ import storedcases
 import tables
 from casefile import CaseFile, NotACaseFile, ONE, X, ZERO, parse
 from randomcases import Random
-from reference import Conditions, TooManyVariables, memcase, printed, run_case
+from reference import memcase, printed, run_case
+from tables import Conditions, TooManyVariables
 
 
 def read_lines(case):

@@ -9,8 +9,7 @@ as the paper counts them and refusal 9 comes where it must.  Names are the paper
 
 from collections import namedtuple
 
-from tables import (TERMINALS, USER_VARIABLE, VARIABLES, Conditions, Refused, TooManyVariables, is_standard,
-                    node_capacity)
+from tables import TERMINALS, USER_VARIABLE, VARIABLES, Conditions, Refused, is_standard, node_capacity
 
 ENTRY_LIMIT = 4096
 

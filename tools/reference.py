@@ -19,8 +19,9 @@ import argparse
 import sys
 from collections import namedtuple
 
-from calls import (ASSERT, CHECK, READ, WRITE, Memory, Record, do_access, in_range, test_pairs)
-from tables import (TABLE_VARIABLES, TERMINALS, USER_VARIABLE, Conditions, Refused, TooManyVariables, is_standard, node_capacity)
+from calls import ASSERT, CHECK, READ, WRITE, Memory, do_access, in_range, test_pairs
+from tables import (TABLE_VARIABLES, TERMINALS, USER_VARIABLE, Conditions, Refused, TooManyVariables, is_standard,
+                    node_capacity)
 
 NODE_WORDS = 16384
 LIST_WORDS = 16384
