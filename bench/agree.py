@@ -17,22 +17,18 @@ from collections import Counter
 import build
 
 sys.path.insert(0, build.TOOLS)
-import cases  # noqa: E402
-import compare  # noqa: E402
 from reference import memcase, run_case  # noqa: E402
 from randomcases import random_bytes  # noqa: E402
+from storedcases import all_cases  # noqa: E402
 
 MAY_BE_MADE = 3
 
 
 def stored():
     """Name, bytes, text and node count (None where refused) of the stored cases."""
-    counts = {}
-    for line in cases.read_file("manifest").decode("ascii").splitlines():
-        columns = line.split(" ")
-        counts[columns[0]] = None if columns[6] == "-" else int(columns[6])
-    for name, data, text in compare.stored_cases():
-        yield name, data, text, counts[name]
+    for case in all_cases():
+        if case.through == "memcase":
+            yield case.name, case.data, case.out, case.record[2] if case.row == 0 else None
 
 
 def random_cases(seed, count):

@@ -11,13 +11,14 @@ from collections import namedtuple
 
 import build
 
-sys.path.insert(0, build.TOOLS)
+sys.path[:0] = [build.TOOLS, build.TESTS]
 import randomcases  # noqa: E402
 from casefile import CaseFile, ONE, X, ZERO, number_bits  # noqa: E402
 from derivedcases import OneAssignment, many_variables  # noqa: E402
 from limitcases import wide_symbolic  # noqa: E402
 from randomcases import Random  # noqa: E402
-from reference import LIST_WORDS, READ  # noqa: E402
+from calls import READ  # noqa: E402
+from reference import LIST_WORDS  # noqa: E402
 
 USER = 8
 PARITY = range(8, 64)

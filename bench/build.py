@@ -7,6 +7,7 @@ import sys
 HERE = os.path.dirname(os.path.abspath(__file__))
 ROOT = os.path.dirname(HERE)
 TOOLS = os.path.join(ROOT, "tools")
+TESTS = os.path.join(ROOT, "tests")
 FOLDER = os.path.join(ROOT, "target", "bench")
 SOURCE = os.path.join(HERE, "memcase_buddy.cpp")
 CALLS = os.path.join(HERE, "calls.c")

@@ -11,7 +11,9 @@ Fast = namedtuple("Fast", "what memcase clock buddy")
 Location = namedtuple("Location", "locations nodes memcase buddy")
 Growth = namedtuple("Growth", "x nodes reads memcase buddy")
 Call = namedtuple("Call", "what nodes microseconds row")
-Figures = namedtuple("Figures", "date cores runs start rows fast calls locations growth why")
+WHY = ("Why memcase is the slower one where it is, and how the sizes of its tables were chosen: `bench/WHY.md`.")
+
+Figures = namedtuple("Figures", "date cores runs start rows fast calls locations growth")
 
 # The goals.
 WHOLE_GOAL = 1.0
@@ -199,7 +201,7 @@ def files(figures):
 def markdown(figures):
     parts = ["# Benchmark", introduction(figures),
              "## Against BuDDy", AGAINST, markdown_table(KIND_HEADER, kind_lines(figures)), start_text(figures),
-             "### Goals not met", "\n".join(not_met(figures)) or "None.", *([figures.why] if figures.why else []),
+             "### Goals not met", "\n".join(not_met(figures)) or "None.", WHY,
              "## Cases that must end in well under a second", markdown_table(FAST_HEADER, fast_lines(figures)),
              "## A library call", CALLS, markdown_table(ROW_2_HEADER, row_2_lines(figures)),
              SMALL_CALLS, markdown_table(CALL_HEADER, call_lines(figures)),

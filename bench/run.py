@@ -7,9 +7,9 @@ Builds the program over BuDDy with -O2 (apt-get install g++ libbdd-dev), makes t
 files under target/bench/, runs both programs on each K times in turn, checks that they print
 the same text, and prints tables with ratios.  Seconds are the processor's, start-up counted,
 the least of K runs.  Then writes BENCHMARK.md and its plots into docs/, or into FOLDER; with
---quick, which runs fewer cases fewer times, into target/bench/.  bench/WHY.md, where there is
-one, says why a goal is not met, and goes into BENCHMARK.md.  The status is 1 where texts
-differ, where a case that must end in well under a second does not, or where a program failed.
+--quick, which runs fewer cases fewer times, into target/bench/.  bench/WHY.md says why a goal
+is not met; BENCHMARK.md names it.  The status is 1 where texts differ, where a case that must
+end in well under a second does not, or where a program failed.
 """
 
 import argparse
@@ -136,13 +136,9 @@ def main():
         date=datetime.date.today().isoformat(), cores=os.cpu_count(), runs=bench.meter.runs,
         start=[result.seconds for result in empty], rows=kinds_table(bench, maker, options.quick),
         fast=fast_table(bench, maker), calls=call_table(), locations=location_tables(bench),
-        growth=growth_tables(bench, maker, options.quick), why=None)
+        growth=growth_tables(bench, maker, options.quick))
 
     print(report.summary(found))
-    why = os.path.join(build.HERE, "WHY.md")
-    if os.path.exists(why):
-        with open(why, encoding="ascii") as file:
-            found = found._replace(why=file.read().strip())
     into = options.into or (build.FOLDER if options.quick else os.path.join(build.ROOT, "docs"))
     os.makedirs(into, exist_ok=True)
     for name, text in report.files(found):

@@ -14,8 +14,9 @@ words as a shell does it and run without a shell, in the folder where the arbite
     crashed   it ended with another status or by a signal, whatever it wrote
 
 Each run has a process group of its own, which is killed when the run is over.  A case is
-judged by `memcase` alone: where it hangs or crashes itself there is no verdict, and
-nothing is counted.
+judged by `memcase` alone.  There is no verdict, and nothing is counted, where it hangs or
+crashes itself, writes anything to standard error, or writes a text that is no whole one:
+neither `refused R after K` alone nor lines of which the last is `end N`.
 
 A row is printed for each case on which not all agree, and below it the first line that
 differs; then the cases of each verdict are counted, and those are named in which both
@@ -28,6 +29,7 @@ import io
 import itertools
 import math
 import os
+import re
 import selectors
 import shlex
 import shutil
@@ -41,11 +43,11 @@ from concurrent.futures import ThreadPoolExecutor
 
 import casetext
 from reference import TEXT_BYTES
-from rowcases import ROOT
 
 VERDICTS = AGREED, DIFFERS, HUNG, CRASHED = "agreed", "differs", "hung", "crashed"
 NO_VERDICT = "-"
 
+ROOT = os.path.dirname(os.path.dirname(os.path.abspath(__file__)))
 MEMCASE = os.path.join(ROOT, "target", "bin", "memcase")
 JUDGE = "memcase"
 
@@ -59,8 +61,12 @@ SHOWN_BEFORE = 24
 Case = namedtuple("Case", "name data")
 
 # What a run wrote, at most one byte more than the longest text; HUNG, CRASHED or None;
-# and how it failed, in words.
-Run = namedtuple("Run", "out failure how")
+# how it failed, in words; and the end of what it wrote to standard error.
+Run = namedtuple("Run", "out failure how errors", defaults=(b"",))
+
+# A whole text: a refusal alone, or lines of which the last says how many entries there are.
+NUMBER = rb"(0|[1-9][0-9]*)"
+WHOLE = re.compile(rb"refused " + NUMBER + rb" after " + NUMBER + rb"\n|((?!refused)[^\n]+\n)*end " + NUMBER + rb"\n")
 
 # The first line in which two texts differ: its number from 1 up, and the line in each
 # with its newline, None where the text has ended before it.
@@ -131,13 +137,13 @@ def run(command, data, seconds):
             process.wait()
         errors += rest_of(process.stderr)
     if len(out) > TEXT_BYTES:
-        return Run(out, None, None)
+        return Run(out, None, None, errors)
     if ended and process.returncode != 0:
-        return Run(out, CRASHED, ending(process.returncode) + last_line(errors))
+        return Run(out, CRASHED, ending(process.returncode) + last_line(errors), errors)
     if ended and closed:
-        return Run(out, None, None)
+        return Run(out, None, None, errors)
     what = "its output was still open" if ended else "it had not ended"
-    return Run(out, HUNG, "%s after %g seconds" % (what, seconds))
+    return Run(out, HUNG, "%s after %g seconds" % (what, seconds), errors)
 
 
 def ending(status):
@@ -188,8 +194,9 @@ class Arbiter:
     def outcome(self, case):
         """Run a case: `memcase` first, and the simulators where it gives a text."""
         judge = run(self.memcase, case.data, self.seconds)
-        if judge.failure or len(judge.out) > TEXT_BYTES:
-            return Outcome(case.name, [NO_VERDICT] * 2, [judge_line(judge)], False)
+        fault = judge_fault(judge)
+        if fault:
+            return Outcome(case.name, [NO_VERDICT] * 2, ["  no verdict: memcase " + fault], False)
         runs = [run(command, case.data, self.seconds) for command in self.commands]
         details = [line for name, simulator in zip(self.names, runs)
                    for line in detail_lines(name, judge, simulator)]
@@ -246,11 +253,17 @@ def detail_lines(name, judge, simulator):
         yield "  %s %s: %s%s" % (name, found, simulator.how, right)
 
 
-def judge_line(judge):
-    """Why there is no verdict."""
+def judge_fault(judge):
+    """Why there is no verdict, in words after `memcase`; None where it gave a whole text and nothing else."""
     if judge.failure:
-        return "  no verdict: memcase %s: %s" % (judge.failure, judge.how)
-    return "  no verdict: memcase wrote more than %d bytes" % TEXT_BYTES
+        return "%s: %s" % (judge.failure, judge.how)
+    if len(judge.out) > TEXT_BYTES:
+        return "wrote more than %d bytes" % TEXT_BYTES
+    if judge.errors:
+        return "wrote to standard error" + last_line(judge.errors)
+    if not WHOLE.fullmatch(judge.out):
+        return "wrote no whole text: its last line is neither `end N` nor a refusal alone"
+    return None
 
 
 class Table:

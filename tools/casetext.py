@@ -40,7 +40,8 @@ import re
 import sys
 
 from casefile import CaseFile, NotACaseFile, VALUES, parse
-from reference import ASSERT, CHECK, READ, WRITE, is_standard
+from calls import ASSERT, CHECK, READ, WRITE
+from tables import is_standard
 
 KIND_NAMES = {WRITE: "write", READ: "read", ASSERT: "assert", CHECK: "check"}
 FIELDS = {

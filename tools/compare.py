@@ -6,44 +6,38 @@
 PROGRAM (with its arguments) is run on each case file on its standard input; what it
 writes to standard output must be what the reference says `memcase` prints.  A program
 that ends with a status other than 0, is ended by a signal, or does not end in T
-seconds differs.  The stored cases of `cases/` that `memcase` runs come first, then N
+seconds differs.  Where the text is right and the program wrote to standard error there is
+no verdict: it says that something failed.  The stored cases (storedcases.py) that `memcase` runs come first, then N
 random ones, valid and damaged; case i of seed S is the same each time.  The first
 differences are printed, and the case files of all go to FOLDER where one is given.
-The status is 1 where anything differs.
+The status is 1 where anything differs, and 2 where nothing does and a verdict is missing.
 """
 
 import argparse
 import os
-import subprocess
 import sys
 from collections import Counter
 
-import cases
+from arbiter import last_line, run
 from randomcases import random_bytes
 from reference import memcase
+from storedcases import all_cases
 
 SHOWN = 5
 SHOWN_BYTES = 400
 
 
 def answer(program, data, timeout):
-    """What the program printed, or a text that says how it failed."""
-    try:
-        done = subprocess.run(program, input=data, stdout=subprocess.PIPE, stderr=subprocess.PIPE,
-                              timeout=timeout, check=False)
-    except subprocess.TimeoutExpired:
-        return "(no end in %g seconds)" % timeout
-    if done.returncode != 0:
-        return "(ended with status %d)" % done.returncode
-    return done.stdout.decode("latin-1")
+    """What the program printed, or a text that says how it failed; and its standard error's end."""
+    done = run(program, data, timeout)
+    return "(%s)\n" % done.how if done.failure else done.out.decode("latin-1"), done.errors
 
 
 def stored_cases():
     """Name, bytes and expected text of the stored cases that `memcase` runs."""
-    for line in cases.read_file("manifest").decode("ascii").splitlines():
-        name, file, through = line.split(" ", 3)[:3]
-        if through == "memcase":
-            yield name, cases.read_file(file + ".case"), cases.read_file(name + ".out").decode("ascii")
+    for case in all_cases():
+        if case.through == "memcase":
+            yield case.name, case.data, case.out
 
 
 def random_cases(seed, count):
@@ -73,19 +67,23 @@ def keep(folder, name, data):
 
 
 def compare(named_cases, ask, folder=None):
-    """Run all cases; the number of differences and a count of each kind of outcome."""
-    different = 0
+    """Run all cases; how many differ, how many have no verdict, and a count of each kind of outcome."""
+    different = missing = 0
     kinds = Counter()
     for name, data, expected in named_cases:
         kinds[outcome_kind(expected)] += 1
-        found = ask(data)
+        found, errors = ask(data)
         if found != expected:
             different += 1
             if different <= SHOWN:
                 report(name, expected, found)
             if folder:
                 keep(folder, name, data)
-    return different, kinds
+        elif errors:
+            missing += 1
+            if missing <= SHOWN:
+                print("no verdict: %s: the text is right, and the program wrote to standard error%s" % (name, last_line(errors)))
+    return different, missing, kinds
 
 
 def main():
@@ -103,16 +101,16 @@ def main():
     def ask(data):
         return answer(options.program, data, options.timeout)
 
-    def all_cases():
+    def wanted():
         if not options.no_stored:
             yield from stored_cases()
         yield from random_cases(options.seed, options.count)
 
-    different, kinds = compare(all_cases(), ask, options.keep)
+    different, missing, kinds = compare(wanted(), ask, options.keep)
     for kind, number in sorted(kinds.items(), key=lambda item: (len(item[0]), item[0])):
         print("%6d %s" % (number, kind))
-    print("%d cases, %d differ" % (sum(kinds.values()), different))
-    sys.exit(1 if different else 0)
+    print("%d cases, %d differ%s" % (sum(kinds.values()), different, ", %d without a verdict" % missing if missing else ""))
+    sys.exit(1 if different else 2 if missing else 0)
 
 
 if __name__ == "__main__":

@@ -21,7 +21,9 @@ import sys
 from itertools import product
 
 from randomcases import Random, tiny, without_refusals
-from reference import ASSERT, CHECK, READ, USER_VARIABLE, WRITE, run_case
+from calls import ASSERT, CHECK, READ, WRITE
+from reference import run_case
+from tables import USER_VARIABLE
 
 # A plain event: control is the list of enable bits that are admitted, or b; address
 # is the list of locations, data the list of words that are admitted.

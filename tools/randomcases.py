@@ -5,7 +5,9 @@ file with every release of Python.
 """
 
 from casefile import (Access, CaseFile, ONE, X, ZERO, access_bytes, node_bytes, two_bytes)
-from reference import ASSERT, USER_VARIABLE, WRITE, Conditions, TooManyVariables, run_case
+from calls import ASSERT, WRITE
+from reference import run_case
+from tables import USER_VARIABLE, Conditions, TooManyVariables
 
 MASK = (1 << 64) - 1
 

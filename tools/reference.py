@@ -19,23 +19,14 @@ import argparse
 import sys
 from collections import namedtuple
 
+from calls import ASSERT, CHECK, READ, WRITE, Memory, do_access, in_range, test_pairs
+from tables import (TABLE_VARIABLES, TERMINALS, USER_VARIABLE, Conditions, Refused, TooManyVariables, is_standard,
+                    node_capacity)
+
 NODE_WORDS = 16384
 LIST_WORDS = 16384
 TEXT_BYTES = 65536
 INPUT_BYTES = 65536
-
-NODE_LIMIT = 16384
-ENTRY_LIMIT = 4096
-TERMINAL = 64
-USER_VARIABLE = 8
-
-# A truth table of 16 variables has 65,536 bits.
-TABLE_VARIABLES = 16
-
-WRITE, READ, ASSERT, CHECK = 1, 2, 3, 4
-
-Record = namedtuple("Record", "n w nodes entries assert_condition check_condition")
-Entry = namedtuple("Entry", "h s address data")
 
 # An access with tables in place of node numbers.  `control` is the enable's pair
 # or the condition b; `answer` is a read's list of pairs, a write's place, an
@@ -44,256 +35,7 @@ Event = namedtuple("Event", "kind control address data answer")
 
 # `text` is None in a refused case; `refusal` and `after` are None in an accepted one.
 # `lines` are those written, also before a refusal.
-Outcome = namedtuple("Outcome", "text lines refusal after record events conditions check_table")
-
-
-class Refused(Exception):
-    """A refusal, with the number of its row."""
-
-    def __init__(self, number):
-        super().__init__(number)
-        self.number = number
-
-
-class TooManyVariables(Exception):
-    """The case has too many variables for truth tables."""
-
-
-class Conditions:
-    """Truth tables over the variables in use, and which of them are nodes.
-
-    Bit a of a table is the condition's value under assignment a, in which bit j
-    is the value of the j-th variable in use.
-    """
-
-    def __init__(self, variables, capacity):
-        self.variables = sorted(variables)
-        if len(self.variables) > TABLE_VARIABLES:
-            raise TooManyVariables(len(self.variables))
-        self.capacity = capacity
-        size = 1 << len(self.variables)
-        self.true = (1 << size) - 1
-        self.place = {v: j for j, v in enumerate(self.variables)}
-        self.masks = [self._mask(j, size) for j in range(len(self.variables))]
-        self.tables = [0, self.true]
-        self.numbers = {0: 0, self.true: 1}
-        self._parts = {0: (TERMINAL, 0, 0), self.true: (TERMINAL, self.true, self.true)}
-        self._ite = {}
-        self._any = {}
-        self._lengths = {0: 1, self.true: 1}
-
-    @staticmethod
-    def _mask(place, size):
-        """The assignments in which the variable at `place` is 1."""
-        block = 1 << place
-        mask = ((1 << block) - 1) << block
-        width = 2 * block
-        while width < size:
-            mask |= mask << width
-            width *= 2
-        return mask
-
-    def count(self):
-        return len(self.tables)
-
-    def parts(self, table):
-        """The least variable that the table turns on, and the table with it at 0 and at 1."""
-        found = self._parts.get(table)
-        if found is None:
-            found = self._find_parts(table)
-            self._parts[table] = found
-        return found
-
-    def _find_parts(self, table):
-        for place, mask in enumerate(self.masks):
-            block = 1 << place
-            low = table & ~mask
-            high = table & mask
-            if low != high >> block:
-                return self.variables[place], low | low << block, high | high >> block
-        raise AssertionError("a table that turns on no variable is a terminal")
-
-    def variable(self, table):
-        return self.parts(table)[0]
-
-    def join(self, variable, low, high):
-        """The table that is `low` where the variable is 0 and `high` where it is 1."""
-        mask = self.masks[self.place[variable]]
-        return low & ~mask | high & mask
-
-    def make(self, variable, low, high):
-        if low == high:
-            return low
-        table = self.join(variable, low, high)
-        if table not in self.numbers:
-            self.add(table)
-        return table
-
-    def add(self, table):
-        """A new node at the count."""
-        if len(self.tables) >= self.capacity:
-            raise Refused(9)
-        self.numbers[table] = len(self.tables)
-        self.tables.append(table)
-
-    def ite(self, f, g, h):
-        if f == self.true:
-            return g
-        if f == 0:
-            return h
-        if g == h:
-            return g
-        if g == self.true and h == 0:
-            return f
-        key = (f, g, h)
-        result = self._ite.get(key)
-        if result is None:
-            v = min(self.variable(f), self.variable(g), self.variable(h))
-            low = self.ite(self.low(f, v), self.low(g, v), self.low(h, v))
-            high = self.ite(self.high(f, v), self.high(g, v), self.high(h, v))
-            result = self.make(v, low, high)
-            self._ite[key] = result
-        return result
-
-    def low(self, table, variable):
-        top, low, _ = self.parts(table)
-        return low if top == variable else table
-
-    def high(self, table, variable):
-        top, _, high = self.parts(table)
-        return high if top == variable else table
-
-    def not_(self, f):
-        return self.ite(f, 0, self.true)
-
-    def and_(self, f, g):
-        return self.ite(f, g, 0)
-
-    def or_(self, f, g):
-        return self.ite(f, self.true, g)
-
-    def any(self, f):
-        """Or over the index variables."""
-        variable, low, high = self.parts(f)
-        if variable >= USER_VARIABLE:
-            return f
-        result = self._any.get(f)
-        if result is None:
-            first = self.any(low)
-            second = self.any(high)
-            result = self.or_(first, second)
-            self._any[f] = result
-        return result
-
-    def index(self, i):
-        return self.make(i, 0, self.true)
-
-    def text_length(self, table):
-        """How many bytes the condition's text has."""
-        found = self._lengths.get(table)
-        if found is None:
-            variable, low, high = self.parts(table)
-            found = len(str(variable)) + 4 + self.text_length(low) + self.text_length(high)
-            self._lengths[table] = found
-        return found
-
-    def text(self, table):
-        if table == 0:
-            return "0"
-        if table == self.true:
-            return "1"
-        variable, low, high = self.parts(table)
-        return "(%d %s %s)" % (variable, self.text(low), self.text(high))
-
-
-class Memory:
-    """The accesses over tables, each step in the paper's order."""
-
-    def __init__(self, n, w, conditions, list_words):
-        self.n = n
-        self.w = w
-        self.conditions = conditions
-        self.entry_capacity = min(list_words // (2 + 2 * n + 2 * w), ENTRY_LIMIT)
-        self.entries = []
-        self.assert_condition = conditions.true
-        self.check_condition = conditions.true
-
-    def record(self):
-        numbers = self.conditions.numbers
-        return Record(self.n, self.w, self.conditions.count(), len(self.entries),
-                      numbers[self.assert_condition], numbers[self.check_condition])
-
-    def enter(self, control, address, data):
-        """Write without its tests: build h and s and append the entry."""
-        c = self.conditions
-        hard = c.and_(control[0], c.not_(control[1]))
-        unique = c.true
-        for h, l in address:
-            unique = c.and_(unique, c.not_(c.and_(h, l)))
-        entry_h = c.and_(hard, unique)
-        entry_s = c.or_(c.and_(*control), c.and_(hard, c.not_(unique)))
-        self.entries.append(Entry(entry_h, entry_s, address, data))
-
-    def need_space(self):
-        if len(self.entries) >= self.entry_capacity:
-            raise Refused(8)
-
-    def narrow(self, inside, address):
-        c = self.conditions
-        for i, (h, l) in enumerate(address):
-            inside = c.and_(inside, c.ite(c.index(i), h, l))
-        return inside
-
-    def look(self, address):
-        c = self.conditions
-        inside = self.narrow(c.true, address)
-        halves = [c.true] * (2 * self.w)
-        for entry in self.entries:
-            match = self.narrow(inside, entry.address)
-            hard = c.and_(match, entry.h)
-            soft = c.and_(match, entry.s)
-            stored = [half for pair in entry.data for half in pair]
-            halves = [c.ite(hard, e, c.ite(soft, c.or_(e, r), r)) for e, r in zip(stored, halves)]
-        halves = [c.any(c.and_(inside, r)) for r in halves]
-        return list(zip(halves[0::2], halves[1::2]))
-
-    def inside(self, words, others):
-        """Where each bit of `words` admits nothing that the bit of `others` does not."""
-        c = self.conditions
-        result = c.true
-        for pair, other in zip(words, others):
-            for half, bound in zip(pair, other):
-                result = c.and_(result, c.or_(c.not_(half), bound))
-        return result
-
-    def write(self, control, address, data):
-        self.need_space()
-        self.enter(control, address, data)
-        return len(self.entries) - 1
-
-    def read(self, control, address):
-        c = self.conditions
-        word = self.look(address)
-        enabled = c.and_(control[0], c.not_(control[1]))
-        return [(c.ite(enabled, h, c.true), c.ite(enabled, l, c.true)) for h, l in word]
-
-    def check(self, b, address, data):
-        c = self.conditions
-        word = self.look(address)
-        holds = self.inside(word, data)
-        self.check_condition = c.and_(self.check_condition, c.or_(c.not_(b), holds))
-
-    def assert_(self, b, address, data):
-        c = self.conditions
-        word = self.look(address)
-        within = self.inside(data, word)
-        self.assert_condition = c.and_(self.assert_condition, c.or_(c.not_(b), within))
-        holds = self.inside(word, data)
-        if c.or_(c.not_(b), c.and_(within, holds)) == c.true:
-            return "kept"
-        self.need_space()
-        self.enter((b, c.not_(b)), address, data)
-        return "entered"
+Outcome = namedtuple("Outcome", "text lines refusal after record events conditions check_table memory")
 
 
 class Reader:
@@ -325,26 +67,6 @@ class Reader:
         return self.at == len(self.data)
 
 
-def node_capacity(node_words):
-    return min(node_words // 3, NODE_LIMIT)
-
-
-def is_standard(nodes):
-    """Standard form of the file's nodes, which are nodes 2 and up."""
-    variables = [TERMINAL, TERMINAL]
-    seen = set()
-    for number, (variable, low, high) in enumerate(nodes, 2):
-        if variable > 63 or low >= number or high >= number or low == high:
-            return False
-        if variable >= variables[low] or variable >= variables[high]:
-            return False
-        if (variable, low, high) in seen:
-            return False
-        seen.add((variable, low, high))
-        variables.append(variable)
-    return True
-
-
 def read_nodes(reader):
     count = reader.number()
     reader.need(5 * count)
@@ -358,8 +80,7 @@ def load_nodes(n, nodes, node_words):
         raise Refused(2)
     variables = set(range(n)) | {variable for variable, _, _ in nodes}
     conditions = Conditions(variables, capacity)
-    for variable, low, high in nodes:
-        conditions.add(conditions.join(variable, conditions.tables[low], conditions.tables[high]))
+    conditions.load(nodes)
     return conditions
 
 
@@ -392,24 +113,8 @@ def as_tables(conditions, access):
     control = tuple(table(number) for number in control)
     address = [(table(h), table(l)) for h, l in address]
     data = [(table(h), table(l)) for h, l in data]
-
-    pairs = address + data + ([control] if kind in (WRITE, READ) else [])
-    if any(h | l != conditions.true for h, l in pairs):
-        raise Refused(6)
-    if kind == ASSERT and any(control[0] & h & l for h, l in address):
-        raise Refused(7)
+    test_pairs(conditions, kind, control, address, data)
     return control, address, data
-
-
-def do_access(memory, kind, control, address, data):
-    """Rows 8 and 9, and the access itself; its answer."""
-    if kind == WRITE:
-        return memory.write(control, address, data)
-    if kind == READ:
-        return memory.read(control, address)
-    if kind == ASSERT:
-        return memory.assert_(control[0], address, data)
-    return memory.check(control[0], address, data)
 
 
 def line_parts(memory, kind, answer):
@@ -457,7 +162,7 @@ class Case:
         reader = Reader(data)
         reader.need(2)
         n, w = reader.byte(), reader.byte()
-        if not (1 <= n <= 8 and 1 <= w <= 16):
+        if not in_range(n, w):
             raise Refused(1)
         conditions = load_nodes(n, read_nodes(reader), node_words)
         self.memory = Memory(n, w, conditions, list_words)
@@ -490,7 +195,8 @@ class Case:
             record=memory.record() if accepted else None,
             events=self.events,
             conditions=memory.conditions if memory else None,
-            check_table=memory.check_condition if accepted else None)
+            check_table=memory.check_condition if accepted else None,
+            memory=memory if accepted else None)
 
 
 def run_case(data, node_words=NODE_WORDS, list_words=LIST_WORDS, text_bytes=TEXT_BYTES):
@@ -503,6 +209,21 @@ def run_case(data, node_words=NODE_WORDS, list_words=LIST_WORDS, text_bytes=TEXT
         return case.outcome(case.run(data, node_words, list_words, text_bytes), None)
     except Refused as refused:
         return case.outcome(None, refused.number)
+
+
+CaseLeft = namedtuple("CaseLeft", "number count record nodes list text")
+
+
+def left_of(outcome, record, node_words, list_words, text_bytes):
+    """What the library's call on a case leaves of a record and of words and bytes as they were."""
+    if outcome.refusal is not None:
+        return CaseLeft(outcome.refusal, outcome.after, record, [0] * len(node_words), [0] * len(list_words),
+                        bytes(len(text_bytes)))
+    nodes = [x for node in TERMINALS for x in node] + outcome.conditions.words(2)
+    entries = outcome.memory.entry_words(0)
+    text = outcome.text.encode("ascii")
+    return CaseLeft(0, len(text), outcome.record, nodes + node_words[len(nodes):],
+                    entries + list_words[len(entries):], text + text_bytes[len(text):])
 
 
 def printed(outcome):

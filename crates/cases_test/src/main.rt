@@ -1,111 +1,121 @@
-// Runs the stored case files. Standard input has them one after the other, each with the lengths of what is lent to it.
-mod bundle;
-mod output;
-mod pattern;
-mod told;
+// Runs the stored case files. Standard input has them one after the other, each after an item that says the lengths of what is lent to it and its own.
+// Of each it prints a line: its number; what the call returned and counted; the record; a digest of each buffer, also past what was lent. Then the text, if it was accepted.
+mod digest;
 
-use bundle::Lengths;
-use casefile::CaseAnswer;
+use digest::digest_bytes;
+use digest::digest_words;
+use stored::Item;
 ghost use Prim.Native.Nat.{_≤_};
-ghost use lib.ListN.{length};
 
-// A case, with words and bytes that are filled before and of which it is lent so many.
-fn run(case: &[u8], words: &mut [u32], list: &mut [u32], text: &mut [u8], lent: Lengths)
-    requires { ⌜ (lent .words ≤ length (now words)) × (lent .list ≤ length (now list)) × (lent .text ≤ length (now text)) ⌝ }
+// A length, or the most that it may be.
+fn length(x: u32, most: usize) -> usize
+    ensures { λ k. ⌜ k ≤ most ⌝ }
 {
-    pattern::fill(words, list, text);
-    let m = lent.words;
-    let k = lent.list;
-    let t = lent.text;
-    let a = casefile::run_case(case, &mut words[..m], &mut list[..k], &mut text[..t]);
-    match a {
-        CaseAnswer::Done { length, memory } => {
-            told::accepted(case, words, list, text, length, memory);
-        }
-        CaseAnswer::Refused { number, after } => {
-            told::refused(words, list, text, lent, number, after);
+    let k = x as usize;
+    if k < most { k } else { most }
+}
+
+// A number after a space.
+fn wide(x: u64) {
+    stored::bytes(b" ");
+    io::print_decimal(libc::STDOUT_FILENO, x);
+}
+
+// What a call returned and counted, and the record.
+struct Done {
+    row: u32,
+    count: u64,
+    record: [u32; 6],
+}
+
+fn tell(d: Done) {
+    let r = d.record;
+    stored::word(d.row);
+    wide(d.count);
+    stored::word(r[0]);
+    stored::word(r[1]);
+    stored::word(r[2]);
+    stored::word(r[3]);
+    stored::word(r[4]);
+    stored::word(r[5]);
+}
+
+// The text of an accepted case.
+fn text_of(row: u32, text: &[u8], count: u64) {
+    let n = count as usize;
+    if row == 0 {
+        if n <= text.len() {
+            stored::bytes(&text[..n]);
         }
     }
 }
 
-// The case, if there is room for it. Whether to go on.
-fn run_in(
-    case: &[u8],
-    words: &mut [u32],
-    list: &mut [u32],
-    text: &mut [u8],
-    lent: Lengths,
-) -> bool {
-    let m = lent.words;
-    let k = lent.list;
-    let t = lent.text;
-    if m > words.len() {
-        return output::wrong(b"node words past the program's\n");
+// The digests, of node words and list words from e and f on.
+fn digests(x: Item, words: &[u32], list: &[u32], text: &[u8]) {
+    wide(digest_words(words, x.e as usize));
+    wide(digest_words(list, x.f as usize));
+    wide(digest_bytes(text));
+    stored::bytes(b"\n");
+}
+
+// The call, lent a words, b list words and c bytes. The record's words and the count are 7 before.
+fn lend(x: Item, case: &[u8], words: &mut [u32], list: &mut [u32], text: &mut [u8]) -> Done {
+    let mut record = [7u32; 6];
+    let mut count: u64 = 7;
+    let m = length(x.a, words.len());
+    let k = length(x.b, list.len());
+    let t = length(x.c, text.len());
+    let row = capi::md_case(
+        case,
+        &mut words[..m],
+        &mut list[..k],
+        &mut text[..t],
+        &mut record,
+        &mut count,
+    );
+    Done { row, count, record }
+}
+
+// A case and what is said of it.
+fn told(x: Item, case: &[u8], words: &mut [u32], list: &mut [u32], text: &mut [u8]) {
+    let d = lend(x, case, words, list, text);
+    tell(d);
+    digests(x, words, list, text);
+    text_of(d.row, text, d.count);
+}
+
+// A case on buffers in which no part is 0, a node, a variable or a byte of text.
+fn run(x: Item, case: &[u8]) {
+    let mut words = [0x8000_0007u32; 60100];
+    let mut list = [0x8000_0007u32; 30100];
+    let mut text = [0x87u8; 65636];
+    told(x, case, &mut words, &mut list, &mut text);
+}
+
+// The next case, of d bytes, of which the call is lent g. Whether there was one.
+fn next(case: &mut [u8], number: u32) -> bool {
+    let x = stored::next();
+    if x.kind == 0 {
+        return false;
     }
-    if k > list.len() {
-        return output::wrong(b"list words past the program's\n");
-    }
-    if t > text.len() {
-        return output::wrong(b"text bytes past the program's\n");
-    }
-    run(case, words, list, text, lent);
+    let size = length(x.d, case.len());
+    let lent = length(x.g, case.len());
+    io::read_full(libc::STDIN_FILENO, &mut case[..size]);
+    stored::bytes(b"case");
+    stored::word(number);
+    stored::bytes(b":");
+    run(x, &case[..lent]);
     true
 }
 
-// The bytes of a case of these lengths, and the case. Whether to go on.
-fn read(
-    case: &mut [u8],
-    words: &mut [u32],
-    list: &mut [u32],
-    text: &mut [u8],
-    lent: Lengths,
-) -> bool {
-    let size = lent.case;
-    if size > case.len() {
-        return output::wrong(b"case bytes past the program's\n");
-    }
-    if io::read_full(libc::STDIN_FILENO, &mut case[..size]) < size {
-        return output::wrong(b"the input ends in a case\n");
-    }
-    run_in(&case[..size], words, list, text, lent)
-}
-
-// The next case, if the input goes on. Whether to go on.
-fn next(
-    case: &mut [u8],
-    words: &mut [u32],
-    list: &mut [u32],
-    text: &mut [u8],
-    number: u32,
-) -> bool {
-    let mut head = [0u8; 16];
-    let got = io::read_full(libc::STDIN_FILENO, &mut head);
-    if got == 0 {
-        return false;
-    }
-    if got < 16 {
-        return output::wrong(b"the input ends before a case\n");
-    }
-    output::line(b"case ", number as u64);
-    read(case, words, list, text, bundle::read_head(&head))
-}
-
-// All cases, numbered from 0.
-fn all(case: &mut [u8], words: &mut [u32], list: &mut [u32], text: &mut [u8]) {
+// As much as the largest of the stored cases has, 81,938 bytes, and some more.
+fn main() {
+    let mut case = [0u8; 82000];
     let mut number: u32 = 0;
     while number < 1_000_000 {
-        if !next(case, words, list, text, number) {
+        if !next(&mut case, number) {
             return;
         }
         number += 1;
     }
-}
-
-// As much as the largest of the stored cases asks (81,938 bytes; 60,000 and 30,000 words, 65,536 bytes), and some more.
-fn main() {
-    let mut case = [0u8; 82000];
-    let mut words = [0u32; 60100];
-    let mut list = [0u32; 30100];
-    let mut text = [0u8; 65636];
-    all(&mut case, &mut words, &mut list, &mut text);
 }

@@ -1,47 +1,71 @@
-// What a node of a store says.
-use crate::lines::bytes;
-use crate::lines::full;
-use crate::lines::number;
-use crate::lines::truth;
+// Questions about the nodes b, c and d of a store.
+use stored::Item;
 use text::Text;
 ghost use Prim.Native.Nat.{_<_, _≤_};
 ghost use Rattle.nodes.specs.Standard.{Standard};
 
-// A node under one assignment.
-fn under(words: &[u32], count: u32, node: u32, a: u64, name: &[u8])
-    requires { ⌜ Standard (now words) count × (node < count) ⌝ }
-{
-    truth(name, conditions::evaluate(words, count, node, a));
+fn joined(low: u32, high: u32) -> u64 {
+    low as u64 + 4294967296 * (high as u64)
 }
 
-// With no variable true, the index variables, the first user variable, the last, both, all 64, and all but the last.
-pub fn values(words: &[u32], count: u32, node: u32)
-    requires { ⌜ Standard (now words) count × (node < count) ⌝ }
+// 21: the value under the assignment whose halves are e and f; 22: whether an argument may name e; 23: whether b and c are neither somewhere; 24: whether b, c and d hold together.
+fn truth(x: Item, words: &[u32], count: u32) -> bool
+    requires { ⌜ Standard (now words) count × (x .b < count) × (x .c < count) × (x .d < count) ⌝ }
 {
-    under(words, count, node, 0, b"under 0");
-    under(words, count, node, 0xff, b"under 2^8 - 1");
-    under(words, count, node, 0x100, b"under 2^8");
-    under(words, count, node, 0x8000_0000_0000_0000, b"under 2^63");
-    under(
-        words,
-        count,
-        node,
-        0x8000_0000_0000_0100,
-        b"under 2^63 + 2^8",
-    );
-    under(words, count, node, 0xffff_ffff_ffff_ffff, b"under 2^64 - 1");
-    under(words, count, node, 0x7fff_ffff_ffff_ffff, b"under 2^63 - 1");
+    let kind = x.kind;
+    match kind {
+        21 => conditions::evaluate(words, count, x.b, joined(x.e, x.f)),
+        22 => conditions::is_user(words, count, x.e),
+        23 => conditions::neither(words, count, x.b, x.c),
+        _ => conditions::together(words, count, x.b, x.c, x.d),
+    }
+}
+
+// Where the text ends, and whether its buffer was full.
+fn tell(t: Text) {
+    stored::bytes(b" at ");
+    io::print_decimal(libc::STDOUT_FILENO, t.at as u64);
+    stored::word(t.full as u32);
+    stored::bytes(b"\n");
 }
 
 // A node's text in so many of 20 bytes, each of which is a dot before.
-pub fn text_in(room: usize, words: &[u32], count: u32, node: u32)
+fn short_text(room: usize, words: &[u32], count: u32, node: u32)
     requires { ⌜ (room ≤ 20) × Standard (now words) count × (node < count) ⌝ }
 {
     let mut buf = [b'.'; 20];
     let empty = Text { at: 0, full: false };
     let t = conditions::put_condition(&mut buf[..room], empty, words, count, node);
-    bytes(&buf);
-    bytes(b" at ");
-    number(t.at as u64);
-    full(t.full);
+    stored::bytes(&buf);
+    tell(t);
+}
+
+// A node's text in 65,536 bytes, of which 29 are shown.
+fn long_text(words: &[u32], count: u32, node: u32)
+    requires { ⌜ Standard (now words) count × (node < count) ⌝ }
+{
+    let mut buf = [0u8; 65536];
+    let empty = Text { at: 0, full: false };
+    let t = conditions::put_condition(&mut buf, empty, words, count, node);
+    stored::bytes(&buf[..29]);
+    tell(t);
+}
+
+// 25: the text in e bytes, up to 20; 26: in 65,536.
+pub fn ask(x: Item, words: &[u32], count: u32)
+    requires { ⌜ Standard (now words) count × (x .b < count) × (x .c < count) × (x .d < count) ⌝ }
+{
+    let room = x.e as usize;
+    if x.kind == 26 {
+        long_text(words, count, x.b);
+        return;
+    }
+    if x.kind == 25 {
+        if room <= 20 {
+            short_text(room, words, count, x.b);
+        }
+        return;
+    }
+    stored::word(truth(x, words, count) as u32);
+    stored::bytes(b"\n");
 }

@@ -1,187 +1,184 @@
-// The eight calls, with one kind of answer.
-use crate::words::at;
-use access::ControlNode;
-use memory::AssertAnswer;
-use memory::CheckAnswer;
-use memory::FreshAnswer;
-use memory::NodeAnswer;
-use memory::ReadAnswer;
-use memory::Record;
-use memory::ValueAnswer;
-use memory::WriteAnswer;
+// A call of the model on the buffers.
+use crate::lines;
+use stored::Item;
+use stored::Words;
+ghost use Prim.Native.Nat.{_≤_};
 
-pub enum Call {
-    Fresh,
-    Evaluate,
-    Variable,
-    Ite,
-    Write,
-    Read,
-    Assert,
-    Check,
-}
-
-pub enum Told {
-    Accepted,
-    Place(u32),
-    Filled,
-    Entered,
-    Kept,
-    Node(u32),
-    Value(u32),
-    Refused(u32),
-}
-
+// What a call returned, its out-word, which is 7 before, and the record.
 pub struct Done {
-    pub after: Record,
-    pub told: Told,
+    pub row: u32,
+    pub out: u32,
+    pub record: [u32; 6],
 }
 
-// n and w are the first two words of the control.
-fn fresh(r: Record, words: &mut [u32], control: &[u32]) -> Done {
-    let x = r.fresh(words, at(control, 0), at(control, 1));
-    let after = x.after;
-    let answer = x.answer;
-    let told = match answer {
-        FreshAnswer::Accepted => Told::Accepted,
-        FreshAnswer::Refused(k) => Told::Refused(k),
+fn joined(low: u32, high: u32) -> u64 {
+    low as u64 + 4294967296 * (high as u64)
+}
+
+// A call that is lent no list; b, c and d are n and w, a node and the halves of an assignment, a variable, or f, g and h.
+fn node_call(x: Item, r: [u32; 6], nodes: &mut [u32]) -> Done {
+    let mut record = r;
+    let mut out: u32 = 7;
+    let kind = x.kind;
+    let row = match kind {
+        5 => capi::md_fresh(&mut record, x.b, x.c, nodes),
+        6 => capi::md_evaluate(&record, nodes, x.b, joined(x.c, x.d), &mut out),
+        7 => capi::md_variable(&mut record, nodes, x.b, &mut out),
+        _ => capi::md_ite(&mut record, nodes, x.b, x.c, x.d, &mut out),
     };
-    Done { after, told }
+    Done { row, out, record }
 }
 
-// The node is the first word of the control; the address are the assignment's lower and upper 32 bits.
-fn evaluate(r: Record, words: &[u32], control: &[u32], address: &[u32]) -> Done {
-    let low = at(address, 0) as u64;
-    let high = at(address, 1) as u64;
-    let x = r.evaluate(words, at(control, 0), high * 0x1_0000_0000 + low);
-    let after = x.after;
-    let answer = x.answer;
-    let told = match answer {
-        ValueAnswer::Value(b) => Told::Value(b as u32),
-        ValueAnswer::Refused(k) => Told::Refused(k),
-    };
-    Done { after, told }
-}
-
-// The variable is the first word of the control.
-fn variable(r: Record, words: &mut [u32], control: &[u32]) -> Done {
-    let x = r.variable(words, at(control, 0));
-    let after = x.after;
-    let answer = x.answer;
-    let told = match answer {
-        NodeAnswer::Node(f) => Told::Node(f),
-        NodeAnswer::Refused(k) => Told::Refused(k),
-    };
-    Done { after, told }
-}
-
-// f is the first word of the control, g and h the first two of the address.
-fn ite(r: Record, words: &mut [u32], control: &[u32], address: &[u32]) -> Done {
-    let x = r.ite(words, at(control, 0), at(address, 0), at(address, 1));
-    let after = x.after;
-    let answer = x.answer;
-    let told = match answer {
-        NodeAnswer::Node(f) => Told::Node(f),
-        NodeAnswer::Refused(k) => Told::Refused(k),
-    };
-    Done { after, told }
-}
-
-fn write(
-    r: Record,
-    words: &mut [u32],
+// A write or a read.
+fn enabled(
+    kind: u32,
+    r: [u32; 6],
+    nodes: &mut [u32],
     list: &mut [u32],
-    control: &[u32],
-    address: &[u32],
-    data: &[u32],
-) -> Done {
-    let x = r.write(words, list, control, address, data);
-    let after = x.after;
-    let answer = x.answer;
-    let told = match answer {
-        WriteAnswer::Place(p) => Told::Place(p),
-        WriteAnswer::Refused(k) => Told::Refused(k),
-    };
-    Done { after, told }
-}
-
-// The data are the answer's words.
-fn read(
-    r: Record,
-    words: &mut [u32],
-    list: &[u32],
-    control: &[u32],
+    enable: &[u32],
     address: &[u32],
     data: &mut [u32],
 ) -> Done {
-    let x = r.read(words, list, control, address, data);
-    let after = x.after;
-    let answer = x.answer;
-    let told = match answer {
-        ReadAnswer::Filled => Told::Filled,
-        ReadAnswer::Refused(k) => Told::Refused(k),
+    let mut record = r;
+    let mut out: u32 = 7;
+    let row = if kind == 1 {
+        capi::md_write(&mut record, nodes, list, enable, address, data, &mut out)
+    } else {
+        capi::md_read(&mut record, nodes, list, enable, address, data)
     };
-    Done { after, told }
+    Done { row, out, record }
 }
 
-// b is the first word of the control.
-fn assert(
-    r: Record,
-    words: &mut [u32],
+// An assert or a check.
+fn conditional(
+    kind: u32,
+    r: [u32; 6],
+    nodes: &mut [u32],
     list: &mut [u32],
-    control: &[u32],
+    b: u32,
     address: &[u32],
     data: &[u32],
 ) -> Done {
-    let b = ControlNode(at(control, 0));
-    let x = r.assert(words, list, b, address, data);
-    let after = x.after;
-    let answer = x.answer;
-    let told = match answer {
-        AssertAnswer::Entered => Told::Entered,
-        AssertAnswer::Kept => Told::Kept,
-        AssertAnswer::Refused(k) => Told::Refused(k),
+    let mut record = r;
+    let mut out: u32 = 7;
+    let row = if kind == 3 {
+        capi::md_assert(&mut record, nodes, list, b, address, data, &mut out)
+    } else {
+        capi::md_check(&mut record, nodes, list, b, address, data)
     };
-    Done { after, told }
+    Done { row, out, record }
 }
 
-// b is the first word of the control.
-fn check(
-    r: Record,
-    words: &mut [u32],
-    list: &[u32],
-    control: &[u32],
-    address: &[u32],
-    data: &[u32],
-) -> Done {
-    let b = ControlNode(at(control, 0));
-    let x = r.check(words, list, b, address, data);
-    let after = x.after;
-    let answer = x.answer;
-    let told = match answer {
-        CheckAnswer::Accepted => Told::Accepted,
-        CheckAnswer::Refused(k) => Told::Refused(k),
-    };
-    Done { after, told }
+// A length, or the most that it may be.
+fn length(x: u32, most: usize) -> usize
+    ensures { λ k. ⌜ k ≤ most ⌝ }
+{
+    let k = x as usize;
+    if k < most { k } else { most }
 }
 
-pub fn ask(
-    c: Call,
-    r: Record,
-    words: &mut [u32],
+// An access whose slices have the lengths that the item says; its c is the length of the enable, or b.
+fn lend(
+    x: Item,
+    r: [u32; 6],
+    nodes: &mut [u32],
     list: &mut [u32],
-    control: &[u32],
+    enable: &[u32],
     address: &[u32],
     data: &mut [u32],
 ) -> Done {
-    match c {
-        Call::Fresh => fresh(r, words, control),
-        Call::Evaluate => evaluate(r, words, control, address),
-        Call::Variable => variable(r, words, control),
-        Call::Ite => ite(r, words, control, address),
-        Call::Write => write(r, words, list, control, address, data),
-        Call::Read => read(r, words, list, control, address, data),
-        Call::Assert => assert(r, words, list, control, address, data),
-        Call::Check => check(r, words, list, control, address, data),
+    let m = length(x.a, nodes.len());
+    let k = length(x.b, list.len());
+    let e = length(x.c, enable.len());
+    let a = length(x.d, address.len());
+    let d = length(x.e, data.len());
+    if x.kind < 3 {
+        return enabled(
+            x.kind,
+            r,
+            &mut nodes[..m],
+            &mut list[..k],
+            &enable[..e],
+            &address[..a],
+            &mut data[..d],
+        );
     }
+    conditional(
+        x.kind,
+        r,
+        &mut nodes[..m],
+        &mut list[..k],
+        x.c,
+        &address[..a],
+        &data[..d],
+    )
+}
+
+// A call that is lent so many node words.
+fn lend_nodes(x: Item, r: [u32; 6], nodes: &mut [u32]) -> Done {
+    let m = length(x.a, nodes.len());
+    node_call(x, r, &mut nodes[..m])
+}
+
+fn once(
+    x: Item,
+    r: [u32; 6],
+    nodes: &mut Words,
+    list: &mut Words,
+    enable: &Words,
+    address: &Words,
+    data: &mut Words,
+) -> Done {
+    if x.kind < 5 {
+        return lend(x, r, nodes, list, enable, address, data);
+    }
+    lend_nodes(x, r, nodes)
+}
+
+// The same call so many times, each from where the one before it left off; the last.
+fn repeat(
+    x: Item,
+    r: [u32; 6],
+    nodes: &mut Words,
+    list: &mut Words,
+    enable: &Words,
+    address: &Words,
+    data: &mut Words,
+) -> Done {
+    let mut done = Done {
+        row: 0,
+        out: 7,
+        record: r,
+    };
+    let mut left = x.f;
+    while left > 0 {
+        let record = done.record;
+        done = once(x, record, nodes, list, enable, address, data);
+        left -= 1;
+    }
+    done
+}
+
+// A call and its line; the record after it.
+pub fn call(
+    x: Item,
+    r: [u32; 6],
+    nodes: &mut Words,
+    list: &mut Words,
+    enable: &Words,
+    address: &Words,
+    data: &mut Words,
+) -> [u32; 6] {
+    let old_nodes = *nodes;
+    let old_list = *list;
+    let old_data = *data;
+    let done = repeat(x, r, nodes, list, enable, address, data);
+    lines::call(x.g, done.row, done.out);
+    let record = done.record;
+    lines::record(&record);
+    lines::changed(b"; nodes ", &old_nodes, nodes);
+    lines::changed(b"; list ", &old_list, list);
+    lines::changed(b"; data ", &old_data, data);
+    stored::bytes(b"\n");
+    record
 }

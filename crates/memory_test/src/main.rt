@@ -1,26 +1,74 @@
-// The calls of the memory, each line a call: its answer; whether all that must be as it was is so; and what it left.
-// The stored lines were not printed by this program. tools/memorylines.py takes the calls and their arguments from these files and finds the lines by itself:
-// rows 1 to 9 and what a refusal leaves as the paper has them, and nodes, entries and answers by the truth tables of tools/reference.py.
-// The comments beside the calls say what is expected by hand, from the paper.
-mod bits;
+// Runs the stored calls. An item of the input is a record, words to put into a buffer, or a call on what they then hold.
+// A line for each call: its number, what it returned, its out-word, the record, and every word that it changed in a buffer, lent or not.
 mod calls;
-mod filled;
-mod largest;
-mod limits;
 mod lines;
-mod lists;
-mod many;
-mod order;
-mod rows;
-mod rulings;
-mod told;
-mod words;
 
+use stored::Item;
+use stored::Words;
+
+// The first number says which buffer.
+fn store(
+    x: Item,
+    nodes: &mut Words,
+    list: &mut Words,
+    control: &mut Words,
+    address: &mut Words,
+    data: &mut Words,
+) {
+    let buffer = x.a;
+    match buffer {
+        0 => stored::put(x, nodes),
+        1 => stored::put(x, list),
+        2 => stored::put(x, control),
+        3 => stored::put(x, address),
+        _ => stored::put(x, data),
+    }
+}
+
+// An item; the record after it.
+fn run(
+    x: Item,
+    r: [u32; 6],
+    nodes: &mut Words,
+    list: &mut Words,
+    control: &mut Words,
+    address: &mut Words,
+    data: &mut Words,
+) -> [u32; 6] {
+    if x.kind == 10 {
+        return [x.a, x.b, x.c, x.d, x.e, x.f];
+    }
+    if x.kind == 9 {
+        store(x, nodes, list, control, address, data);
+        return r;
+    }
+    calls::call(x, r, nodes, list, control, address, data)
+}
+
+// All items, on buffers of zeros at first.
 fn main() {
-    rows::run();
-    order::run();
-    rulings::run();
-    limits::run();
-    lists::run();
-    largest::run();
+    let mut r: [u32; 6] = [0; 6];
+    let mut nodes: Words = [0; 49160];
+    let mut list: Words = [0; 49160];
+    let mut control: Words = [0; 49160];
+    let mut address: Words = [0; 49160];
+    let mut data: Words = [0; 49160];
+    let mut left: u32 = 1_000_000;
+    while left > 0 {
+        let x = stored::next();
+        if x.kind == 0 {
+            return;
+        }
+        let after = run(
+            x,
+            r,
+            &mut nodes,
+            &mut list,
+            &mut control,
+            &mut address,
+            &mut data,
+        );
+        r = after;
+        left -= 1;
+    }
 }

@@ -1,0 +1,64 @@
+// The stored inputs of the test programs: items of eight numbers, each of four bytes, low byte first; and words of output.
+
+pub type Words = [u32; 49160];
+
+// What the numbers say is said by the program that reads them; a kind of 0 is the end of the input.
+pub struct Item {
+    pub kind: u32,
+    pub a: u32,
+    pub b: u32,
+    pub c: u32,
+    pub d: u32,
+    pub e: u32,
+    pub f: u32,
+    pub g: u32,
+}
+
+fn joined(a: u8, b: u8, c: u8, d: u8) -> u32 {
+    a as u32 + 256 * (b as u32) + 65536 * (c as u32) + 16777216 * (d as u32)
+}
+
+// The next number, 0 past the end.
+pub fn number() -> u32 {
+    let mut b = [0u8; 4];
+    io::read_full(libc::STDIN_FILENO, &mut b);
+    joined(b[0], b[1], b[2], b[3])
+}
+
+pub fn next() -> Item {
+    Item {
+        kind: number(),
+        a: number(),
+        b: number(),
+        c: number(),
+        d: number(),
+        e: number(),
+        f: number(),
+        g: number(),
+    }
+}
+
+// Puts c words from place b on: the first is e, and each next stands d places on and is more by f.
+pub fn put(x: Item, to: &mut Words) {
+    let mut at = x.b;
+    let mut word = x.e;
+    let mut left = x.c;
+    while left > 0 {
+        if at < 49160 {
+            to[at as usize] = word;
+        }
+        at = std::num::wrapping_add_u32(at, x.d);
+        word = std::num::wrapping_add_u32(word, x.f);
+        left -= 1;
+    }
+}
+
+pub fn bytes(s: &[u8]) {
+    io::write_all(libc::STDOUT_FILENO, s);
+}
+
+// A number after a space.
+pub fn word(x: u32) {
+    bytes(b" ");
+    io::print_decimal(libc::STDOUT_FILENO, x as u64);
+}

@@ -1,0 +1,269 @@
+#!/usr/bin/env python3
+"""The nine functions for C, held to the second program: what each returns, and every word of every buffer.
+
+    python3 tests/linkcalls.py ARCHIVE [--times K]
+
+makes a shared object of the archive and calls it through ctypes on random inputs from fixed seeds,
+long and short, valid and damaged; K times as many with --times.  The calls' answers are found by
+tools/calls.py, those of case files by tools/reference.py.  It prints how often each function met each
+row, 0 being accepted; the status is 1 where anything differs, or where a row was not met that a
+function can meet.
+"""
+
+import argparse
+import ctypes
+import os
+import subprocess
+import sys
+import tempfile
+from collections import Counter
+
+import rooms  # noqa: F401
+from calls import (ASSERT, CHECK, EVALUATE, FRESH, ITE, NAMES, READ, VARIABLE, WRITE, Call, entry_size, run)
+from randomcalls import (Shape, State, Words, access, any_call, call, damage, memory, no_memory, shape, store,
+                         user_variables)
+from randomcases import random_bytes
+from reference import left_of, run_case
+
+# The rows that a function can meet.
+REACHED = {WRITE: {0, 1, 2, 3, 4, 5, 6, 8, 9}, READ: {0, 1, 2, 3, 4, 5, 6, 9}, ASSERT: set(range(10)),
+           CHECK: {0, 1, 2, 3, 4, 5, 6, 9}, FRESH: {0, 1, 2}, EVALUATE: {0, 1, 2, 5}, VARIABLE: {0, 1, 2, 5, 9},
+           ITE: {0, 1, 2, 5, 9}}
+REACHED_BY_CASES = {0, 1, 2, 5, 6, 7, 8, 9, 10, 11, 12, 13}
+GUARD = 8
+
+
+class Differs(Exception):
+    """The library does not do what the second program says, with the input."""
+
+
+class Library:
+    """The archive as a shared object."""
+
+    def __init__(self, archive, folder):
+        path = os.path.join(folder, "mangerday.so")
+        subprocess.run([os.environ.get("CC", "cc"), "-shared", "-o", path, "-Wl,--whole-archive", archive,
+                        "-Wl,--no-whole-archive"], check=True)
+        self.library = ctypes.CDLL(path)
+
+    def __getattr__(self, name):
+        return getattr(self.library, "md_" + name)
+
+
+class Lent:
+    """A lent buffer, with words after it that nothing may change."""
+
+    def __init__(self, words, kind=ctypes.c_uint32):
+        self.length = len(words)
+        self.buffer = (kind * (self.length + GUARD))(*words, *[77] * GUARD)
+
+    def slice(self):
+        return self.buffer, ctypes.c_size_t(self.length)
+
+    def words(self):
+        found = list(self.buffer)
+        if found[self.length:] != [77] * GUARD:
+            raise Differs("words were written past a buffer of %d" % self.length)
+        return found[:self.length]
+
+
+def ask(library, one, state, out):
+    """A call of the library: what it returned, its out-word, and every buffer."""
+    record, nodes, entries = Lent(state.record), Lent(state.nodes), Lent(state.list)
+    control, address, data = Lent(one.control), Lent(one.address), Lent(one.data)
+    told = ctypes.c_uint32(out)
+    at = record.buffer
+    other = [ctypes.c_uint32(x) for x in one.other]
+    if one.kind == FRESH:
+        number = library.fresh(at, *other, *nodes.slice())
+    elif one.kind == EVALUATE:
+        number = library.evaluate(at, *nodes.slice(), other[0], ctypes.c_uint64(one.other[1]), ctypes.byref(told))
+    elif one.kind == VARIABLE:
+        number = library.variable(at, *nodes.slice(), *other, ctypes.byref(told))
+    elif one.kind == ITE:
+        number = library.ite(at, *nodes.slice(), *other, ctypes.byref(told))
+    else:
+        first = control.slice() if one.kind in (WRITE, READ) else [ctypes.c_uint32(one.control[0])]
+        last = [ctypes.byref(told)] if one.kind in (WRITE, ASSERT) else []
+        function = getattr(library, NAMES[one.kind])
+        number = function(at, *nodes.slice(), *entries.slice(), *first, *address.slice(), *data.slice(), *last)
+    if control.words() != list(one.control) or address.words() != list(one.address):
+        raise Differs("a slice was written that is only read")
+    return number, told.value, tuple(record.words()), nodes.words(), entries.words(), data.words()
+
+
+class Test:
+    """The library, and how often each function met each row."""
+
+    def __init__(self, library):
+        self.library = library
+        self.met = Counter()
+
+    def compare(self, rng, one, state):
+        expected = run(one, *state)
+        out = rng.below(1 << 32)
+        wanted = (expected.number, out if expected.out is None else expected.out, tuple(expected.record), expected.nodes,
+                  expected.list, expected.data)
+        found = ask(self.library, one, state, out)
+        for what, right, answer in zip(("number", "out-word", "record", "node words", "list words", "data"), wanted, found):
+            if right != answer:
+                raise Differs("%s: %s is %s, not %s\n%s\n%s" % (NAMES[one.kind], what, answer, right, one, state))
+        self.met[one.kind, expected.number] += 1
+        return expected
+
+    def capacities(self, rng, one, state, after):
+        """The call with room for from none to all of the nodes that it needs: 9 where that is not enough."""
+        if after.number or one.kind == FRESH:
+            return
+        least, needed = state.record.nodes, after.record.nodes
+        for nodes in range(needed, least - 1, -1 - (needed - least) // 12):
+            small = State(state.record, state.nodes[:3 * nodes + rng.below(3)], state.list)
+            if self.compare(rng, one, small).number != (9 if nodes < needed else 0):
+                raise Differs("%s in %d nodes" % (NAMES[one.kind], nodes))
+
+    def step(self, rng, state, one, damaged):
+        """A call, most often as it should be, else damaged; the memory to go on from."""
+        if not rng.chance(damaged):
+            left = self.compare(rng, one, state)
+            if rng.chance(10):
+                self.capacities(rng, one, state, left)
+            return State(left.record, left.nodes, left.list)
+        left = self.compare(rng, *damage(rng, one, state))
+        return State(left.record, left.nodes, left.list) if left.number == 0 and rng.chance(50) else state
+
+    def chain(self, seed):
+        """Calls one after another from a Fresh."""
+        rng = Words(seed)
+        size = shape(rng)
+        nodes = rng.words(rng.between(6, 120) if rng.chance(50) else rng.between(100, 900))
+        listed = rng.words(rng.below(8) * entry_size(size.n, size.w) + rng.below(4))
+        state = self.step(rng, State(rng.record(), nodes, listed), Call(FRESH, other=(size.n, size.w)), 10)
+        for _ in range(rng.between(5, 20)):
+            state = self.step(rng, state, call(rng, state, size.variables), 25)
+
+    def any_memory(self, seed):
+        """Calls on a memory whose nodes, entries and conditions are any that rows 1 to 3 let pass."""
+        rng = Words(seed)
+        size = shape(rng)
+        variables = size.variables + (list(range(min(8, size.n + 2))) if rng.chance(50) else [])
+        nodes = store(rng, variables, rng.between(2, 60))
+        state = memory(rng, size, nodes, rng.below(7), rng.below(600), rng.below(3 * entry_size(size.n, size.w)))
+        for _ in range(4):
+            self.step(rng, state, call(rng, state, size.variables), 40)
+
+    def any_words(self, seed):
+        """Any words at all, and memories with any call."""
+        rng = Words(seed)
+        state = no_memory(rng)
+        self.compare(rng, any_call(rng, state), state)
+        size = shape(rng)
+        state = memory(rng, size, store(rng, size.variables, 6), 1, 30, 30)
+        self.compare(rng, any_call(rng, state), state)
+
+    def large_store(self, seed, count):
+        """Stores of 49,152 words and more: thousands of nodes, up to the 16,384 that there may be."""
+        rng = Words(seed)
+        size = Shape(1, rng.between(1, 2), list(range(8, 20)))
+        nodes = store(rng, size.variables, count)
+        state = memory(rng, size, nodes, 2, 49152 - 3 * len(nodes) + rng.below(9), 3 * entry_size(size.n, size.w))
+        for _ in range(4):
+            state = self.step(rng, state, call(rng, state, size.variables), 15)
+
+    def large_list(self, seed, entries):
+        """Lists of thousands of entries, up to the 4,096 that there may be."""
+        rng = Words(seed)
+        size = Shape(1, 1, user_variables(rng, 2))
+        state = memory(rng, size, store(rng, size.variables, 6), entries, 300, rng.between(6, 40))
+        for _ in range(3):
+            self.step(rng, state, access(rng, state), 20)
+
+    def case(self, seed):
+        """A case file, in buffers that are long enough, just long enough, or too short."""
+        rng = Words(seed)
+        data, _ = random_bytes(seed)
+        ample = run_case(data)
+        needed = (40, 60, 40)
+        if ample.record:
+            size = entry_size(ample.record.n, ample.record.w)
+            needed = (3 * ample.record.nodes, ample.record.entries * size, len(ample.text))
+        lengths = [buffer_length(rng, length) for length in needed]
+        nodes, listed, record = rng.words(lengths[0]), rng.words(lengths[1]), tuple(rng.words(6))
+        text = bytes(rng.below(256) for _ in range(lengths[2]))
+        wanted = left_of(run_case(data, *lengths), record, nodes, listed, text)
+        found = self.ask_case(data, nodes, listed, text, record, rng.next())
+        if found != tuple(wanted):
+            raise Differs("case of seed %d, lent %s: %s, not %s" % (seed, lengths, found[:3], tuple(wanted)[:3]))
+        self.met["case", wanted.number] += 1
+
+    def ask_case(self, data, nodes, listed, text, record, count):
+        nodes, listed, record = Lent(nodes), Lent(listed), Lent(record)
+        text, case = Lent(text, ctypes.c_uint8), Lent(data, ctypes.c_uint8)
+        told = ctypes.c_uint64(count)
+        number = self.library.case(*case.slice(), *nodes.slice(), *listed.slice(), *text.slice(), record.buffer,
+                                   ctypes.byref(told))
+        case.words()
+        return number, told.value, tuple(record.words()), nodes.words(), listed.words(), bytes(text.words())
+
+
+def buffer_length(rng, needed):
+    """Most often ample, else near what is needed, or anything."""
+    way = rng.below(10)
+    if way == 0:
+        return needed
+    if way == 1:
+        return needed + rng.below(4)
+    if way == 2:
+        return max(0, needed - rng.between(1, 4))
+    if way == 3:
+        return rng.below(min(needed + 1, 8) if rng.chance(30) else needed + 1)
+    return needed + rng.below(300)
+
+
+def all_tests(test, times):
+    for seed in range(350 * times):
+        test.chain(seed)
+    for seed in range(600 * times):
+        test.any_memory(100000 + seed)
+    for seed in range(5000 * times):
+        test.any_words(200000 + seed)
+    for seed, count in enumerate([2000, 12000, 16380, 16384]):
+        test.large_store(300000 + seed, count)
+    for seed, entries in enumerate([1000, 4095, 4096]):
+        test.large_list(400000 + seed, entries)
+    for seed in range(1800 * times):
+        test.case(500000 + seed)
+
+
+def report(met):
+    """Print the counts; the status to end with."""
+    status = 0
+    for kind, rows in [*REACHED.items(), ("case", REACHED_BY_CASES)]:
+        found = {row: many for (one, row), many in met.items() if one == kind}
+        name = NAMES.get(kind, kind)
+        print("%-9s %s" % (name, " ".join("%d:%d" % item for item in sorted(found.items()))))
+        if set(found) != rows:
+            print("linkcalls: %s met the rows %s, not %s: other seeds are needed" % (name, sorted(found), sorted(rows)))
+            status = 1
+    print("%d calls compared, every buffer" % sum(met.values()))
+    return status
+
+
+def main():
+    parser = argparse.ArgumentParser(description=__doc__, formatter_class=argparse.RawDescriptionHelpFormatter)
+    parser.add_argument("archive", metavar="ARCHIVE", help="libmangerday.a, as link/install leaves it")
+    parser.add_argument("--times", type=int, default=1, metavar="K", help="K times as many inputs (1)")
+    options = parser.parse_args()
+    if not os.path.isfile(options.archive):
+        sys.exit("linkcalls: no %s; `link/install PREFIX` makes PREFIX/lib/libmangerday.a" % options.archive)
+    with tempfile.TemporaryDirectory() as folder:
+        test = Test(Library(options.archive, folder))
+        try:
+            all_tests(test, options.times)
+        except Differs as difference:
+            print("linkcalls: " + str(difference))
+            return 1
+    return report(test.met)
+
+
+if __name__ == "__main__":
+    sys.exit(main())

@@ -1,0 +1,402 @@
+#!/usr/bin/env python3
+"""Tests of the tools themselves; a few seconds.
+
+    python3 tests/selftest.py [-v]
+
+They hold the reference to the paper's file, rulings and small inputs, to all plain
+runs of small cases, and to wrong programs, each of which the cases must find out.
+"""
+
+import os
+import unittest
+from contextlib import contextmanager
+
+from rooms import ROOT
+import calls
+import callscript
+import cases
+import casetext
+import derivedcases
+import memorycalls
+import plain
+import randomcases
+import reference
+import rowcases
+import storedcases
+import tables
+from casefile import CaseFile, NotACaseFile, ONE, X, ZERO, parse
+from randomcases import Random
+from reference import memcase, printed, run_case
+from tables import Conditions, TooManyVariables
+
+
+def read_lines(case):
+    """The lines that a case prints for its reads and checks."""
+    return [line for line in memcase(case.bytes()).splitlines() if line[0] in "rc"]
+
+
+class Paper(unittest.TestCase):
+    def test_worked_file(self):
+        self.assertEqual(memcase(rowcases.WORKED),
+                         "write 0\nread 1:(8 0 1)\ncheck (8 1 0)\nend 1\n")
+
+    def test_rulings(self):
+        expected = {"01": ["read 1:1"], "02": ["read 1:0"], "03": ["read 1:1"], "04": ["read 1:1"],
+                    "05": ["read 1:0"], "06": ["read 1:0"], "07": ["read 1:1"], "08": ["read 1:1"],
+                    "09": ["read 1:1"], "10": ["read 1:1"], "11": ["check 1", "check 0"]}
+        for number, what, script in rowcases.RULINGS:
+            with self.subTest(what):
+                self.assertEqual(read_lines(rowcases.ruling_case(script)), expected[number])
+
+    def test_small_inputs_of_the_table(self):
+        def refusal(data, **lengths):
+            return run_case(data, **lengths).refusal
+
+        case = CaseFile()
+        index = case.node(7, 0, 1)
+        case.check(index, [ZERO], [ONE])
+        pair = CaseFile()
+        pair.write((0, 0), [ZERO], [ONE])
+        unknown = CaseFile()
+        unknown.assert_(1, [X], [ONE])
+        write = CaseFile()
+        write.write(ONE, [ZERO], [ONE])
+        read = CaseFile()
+        read.read(ONE, [ZERO])
+        self.assertEqual(refusal(CaseFile(9, 1).bytes()), 1)
+        self.assertEqual(refusal(CaseFile().bytes(), node_words=5), 2)
+        self.assertEqual(refusal(case.bytes()), 5)
+        self.assertEqual(refusal(pair.bytes()), 6)
+        self.assertEqual(refusal(unknown.bytes()), 7)
+        self.assertEqual(refusal(write.bytes(), list_words=0), 8)
+        self.assertEqual(refusal(read.bytes(), node_words=6), 9)
+        self.assertEqual(refusal(b""), 10)
+        self.assertEqual(refusal(bytes((1, 1, 0, 0, 1, 0, 0))), 11)
+        self.assertEqual(refusal(CaseFile().bytes() + b"\0"), 12)
+        self.assertEqual(refusal(CaseFile().bytes(), text_bytes=5), 13)
+        self.assertEqual(run_case(CaseFile().bytes(), text_bytes=6).text, "end 0\n")
+
+    def test_every_row_is_stored(self):
+        found = {case.row for case in storedcases.all_cases()}
+        self.assertEqual(found, {0, 1, 2, 5, 6, 7, 8, 9, 10, 11, 12, 13})
+
+
+class Tables(unittest.TestCase):
+    def test_every_function_of_three_variables(self):
+        """Ite, Not, And, Or and Any on tables say what they must, under every assignment."""
+        conditions = Conditions([0, 8, 9], 10000)
+        functions = range(0, 256, 7)
+        for f in functions:
+            self.assertEqual(conditions.not_(f), 255 & ~f)
+            low = {a & ~1 for a in range(8) if f >> a & 1}
+            exists = sum(1 << a for a in range(8) if a & ~1 in low)
+            self.assertEqual(conditions.any(f), exists)
+            for g in functions:
+                self.assertEqual(conditions.and_(f, g), f & g)
+                self.assertEqual(conditions.or_(f, g), f | g)
+                for h in range(0, 256, 31):
+                    self.assertEqual(conditions.ite(f, g, h), f & g | 255 & ~f & h)
+
+    def test_nodes_are_made_children_first(self):
+        """The nodes of each run are a store in standard form, in the order they were made."""
+        for seed in range(60):
+            conditions = run_case(randomcases.small(Random(seed)).bytes()).conditions
+            words = []
+            for table in conditions.tables[2:]:
+                variable, low, high = conditions.parts(table)
+                words.append((variable, conditions.numbers[low], conditions.numbers[high]))
+            self.assertTrue(tables.is_standard(words))
+
+    def test_ite_makes_exactly_the_parts_of_its_result(self):
+        """A law of canonical nodes that the recursion does not use: what Ite adds is the
+        parts of its result that were not there, low before high, the result last."""
+        for seed in range(40):
+            rng = Random(seed)
+            conditions = Conditions([0, 1, 8, 9, 10], 10000)
+            for _ in range(30):
+                f, g, h = (rng.choice(conditions.tables + [conditions.index(rng.below(2))])
+                           if rng.chance(70) else conditions.make(rng.choice([8, 9, 10]), 0, conditions.true)
+                           for _ in range(3))
+                before = list(conditions.tables)
+                expected = []
+                new_parts(conditions, f & g | conditions.true & ~f & h, set(before), expected)
+                conditions.ite(f, g, h)
+                self.assertEqual(conditions.tables, before + expected)
+
+    def test_too_many_variables(self):
+        case = CaseFile()
+        case.parity(range(8, 64))
+        with self.assertRaises(TooManyVariables):
+            run_case(case.bytes())
+
+    def test_derivations_hold_for_fewer_variables(self):
+        """What derivedcases.py derives for 56 variables, truth tables say for 5, 7 and 8."""
+        for size, text_bytes in ((5, 190), (7, 400), (8, 800)):
+            for case in derivedcases.many_variables(size, text_bytes):
+                outcome = run_case(case.data, *case.lengths)
+                self.assertEqual((printed(outcome), outcome.record), (case.out, case.record), case.name)
+        for case in derivedcases.much_work(40):
+            self.assertEqual(memcase(case.data), case.out)
+
+
+def new_parts(conditions, table, seen, made):
+    """Append the table's parts that are not in `seen`, low first, then the table."""
+    if table in seen:
+        return
+    _, low, high = conditions.parts(table)
+    new_parts(conditions, low, seen, made)
+    new_parts(conditions, high, seen, made)
+    seen.add(table)
+    made.append(table)
+
+
+class PlainRuns(unittest.TestCase):
+    def test_reads_and_checks_are_exact(self):
+        reads = checks = 0
+        for seed in range(400):
+            case = randomcases.without_refusals(randomcases.tiny(Random(seed)))
+            outcome = run_case(case.bytes())
+            self.assertEqual(plain.differences(outcome, case.n, case.w), [], seed)
+            reads += sum(event.kind == calls.READ for event in outcome.events)
+            checks += sum(event.kind == calls.CHECK for event in outcome.events)
+        self.assertGreater(reads, 200)
+        self.assertGreater(checks, 100)
+
+    def test_one_run_after_another(self):
+        """Runs kept together by their contents say the same as all runs one by one."""
+        for seed in range(60):
+            case = randomcases.without_refusals(randomcases.tiny(Random(seed)))
+            if case.n * case.w > 2 or len(case.accesses) > 4:
+                continue
+            outcome = run_case(case.bytes())
+            for assignment in plain.user_assignments(outcome.conditions):
+                events = [plain.plain_event(event, assignment) for event in outcome.events]
+                self.assertEqual(plain.run_states(events, case.n, case.w),
+                                 plain.run_choices(events, case.n, case.w))
+
+
+# Wrong programs: a class, the name of a function of it, and the wrong function, which
+# is given the right one first.
+
+def soft_replaces(_right, self, address):
+    c = self.conditions
+    inside = self.narrow(c.true, address)
+    halves = [c.true] * (2 * self.w)
+    for entry in self.entries:
+        match = self.narrow(inside, entry.address)
+        hit = c.or_(c.and_(match, entry.h), c.and_(match, entry.s))
+        halves = [c.ite(hit, e, r) for e, r in zip([half for pair in entry.data for half in pair], halves)]
+    halves = [c.any(c.and_(inside, r)) for r in halves]
+    return list(zip(halves[0::2], halves[1::2]))
+
+
+def x_address_reads_as_ones(right, self, address):
+    true = self.conditions.true
+    return right(self, [(true, 0) if pair == (true, true) else pair for pair in address])
+
+
+def enable_ignored(_right, self, _control, address):
+    return self.look(address)
+
+
+def x_write_ignored(right, self, control, address, data):
+    true = self.conditions.true
+    if any(pair == (true, true) for pair in address):
+        control = (0, true)
+    return right(self, control, address, data)
+
+
+def never_enters(_right, self, _control, _address, _data):
+    self.entries.append(calls.Entry(0, 0, _address, _data))
+
+
+def high_part_first(right, self, f, g, h):
+    ends = f in (0, self.true) or g == h or (g == self.true and h == 0)
+    if not ends and (f, g, h) not in self._ite:
+        v = min(self.variable(f), self.variable(g), self.variable(h))
+        self.ite(self.high(f, v), self.high(g, v), self.high(h, v))
+    return right(self, f, g, h)
+
+
+def always_entered(right, self, b, address, data):
+    answer = right(self, b, address, data)
+    if answer == "kept":
+        self.enter((b, self.conditions.not_(b)), address, data)
+    return "entered"
+
+
+def no_last_node(right, self, table):
+    if len(self.tables) >= self.capacity - 1:
+        raise tables.Refused(9)
+    return right(self, table)
+
+
+def one_entry_more(_right, self):
+    if len(self.entries) > self.entry_capacity:
+        raise tables.Refused(8)
+
+
+def no_row_6(_right, conditions, access):
+    kind, control, address, data = access
+    try:
+        table = conditions.tables.__getitem__
+        return (tuple(map(table, control)), [(table(h), table(l)) for h, l in address],
+                [(table(h), table(l)) for h, l in data])
+    except IndexError:
+        raise tables.Refused(5) from None
+
+
+def kind_after_bytes(right, self, n, w):
+    self.need(3)
+    return right(self, n, w)
+
+
+def lowest_bit_first(right, memory, kind, answer):
+    return right(memory, kind, answer[::-1] if kind == calls.READ else answer)
+
+
+WRONG = [
+    (calls.Memory, "look", soft_replaces),
+    (calls.Memory, "look", x_address_reads_as_ones),
+    (calls.Memory, "read", enable_ignored),
+    (calls.Memory, "write", x_write_ignored),
+    (calls.Memory, "enter", never_enters),
+    (calls.Memory, "assert_", always_entered),
+    (calls.Memory, "need_space", one_entry_more),
+    (tables.Conditions, "add", no_last_node),
+    (tables.Conditions, "ite", high_part_first),
+    (reference, "as_tables", no_row_6),
+    (reference, "read_access", kind_after_bytes),
+    (reference, "line_parts", lowest_bit_first),
+]
+
+
+def index_nodes_taken(_right, nodes, words):
+    return any(word >= len(nodes) for word in words)
+
+
+def nothing_cleared(right, call, record, words, entries):
+    left = right(call, record, words, entries)
+    return left._replace(nodes=list(words)) if left.number else left
+
+
+def conditions_kept(right, self):
+    return right(self)._replace(assert_condition=1, check_condition=1)
+
+
+def one_entry_less(right, n, w, list_words):
+    return max(0, right(n, w, list_words) - 1)
+
+
+WRONG_CALLS = [
+    (calls.Memory, "enter", never_enters),
+    (calls.Memory, "need_space", one_entry_more),
+    (calls.Memory, "record", conditions_kept),
+    (tables.Conditions, "add", no_last_node),
+    (calls, "row_5", index_nodes_taken),
+    (calls, "list_capacity", one_entry_less),
+    (callscript, "run", nothing_cleared),
+]
+
+
+@contextmanager
+def planted(place, name, wrong):
+    """The reference with one function of it replaced by a wrong one."""
+    right = getattr(place, name)
+    setattr(place, name, lambda *arguments: wrong(right, *arguments))
+    try:
+        yield
+    finally:
+        setattr(place, name, right)
+
+
+class WrongPrograms(unittest.TestCase):
+    def test_stored_cases_find_each(self):
+        stored = [case for case in cases.all_cases() if len(case.data) < 5000 and not derived(case)]
+        for place, name, wrong in WRONG:
+            with planted(place, name, wrong):
+                self.assertTrue(any(differs(case) for case in stored), wrong.__name__)
+
+    def test_random_cases_find_each(self):
+        """But for the limits, which few random cases meet."""
+        expected = []
+        for seed in range(500):
+            data, _ = randomcases.random_bytes(seed)
+            expected.append((data, memcase(data)))
+        for place, name, wrong in WRONG:
+            if wrong not in (no_last_node, one_entry_more):
+                with planted(place, name, wrong):
+                    self.assertTrue(any(memcase(data) != text for data, text in expected), wrong.__name__)
+
+
+    def test_stored_calls_find_each(self):
+        """Each wrong program of the calls answers or leaves something else somewhere."""
+        right = memorycalls.script(memorycalls.SMALL).output()
+        for place, name, wrong in WRONG_CALLS:
+            with planted(place, name, wrong):
+                self.assertTrue(memorycalls.script(memorycalls.SMALL).output() != right, wrong.__name__)
+
+
+def derived(case):
+    return case.name.startswith(("parity-56", "one-of-2-56", "work"))
+
+
+def differs(case):
+    data = case.data[:reference.INPUT_BYTES] if case.through == "memcase" else case.data
+    outcome = run_case(data, *case.lengths)
+    return (printed(outcome), outcome.record) != (case.out, case.record)
+
+
+class Texts(unittest.TestCase):
+    def test_examples(self):
+        with open(os.path.join(ROOT, "examples", "worked.txt"), encoding="utf-8") as file:
+            self.assertEqual(casetext.encode(file.read()), rowcases.WORKED)
+
+    def test_round_trip(self):
+        trips = 0
+        for seed in range(500):
+            data, _ = randomcases.random_bytes(seed)
+            try:
+                text = casetext.decode(data)
+            except NotACaseFile:
+                continue
+            trips += 1
+            self.assertEqual(casetext.encode(text), data)
+            self.assertEqual(parse(data).bytes(), data)
+        self.assertGreater(trips, 200)
+
+    def test_mistakes_name_the_line(self):
+        start = "memory n=1 w=1\n"
+        mistakes = ["read enable=1 address=0\n", start + "read enable=1 address=00\n",
+                    start + "read enable=1 address=a\n", start + "node 3 = (8 0 1)\n",
+                    start + "node a = (8 0 1)\nread enable=a address=0\n", start + "write enable=1 address=0\n",
+                    start + "check b=70000 address=0 data=0\n", start + "jump\n", start + start,
+                    start + "read enable=1 address=0\nnode a = (8 0 1)\n", start + "node A = (8 0 1)\n",
+                    start + "node a = (8 0 1)\nnode a = (8 1 0)\n", "memory n=256 w=1\n"]
+        for text in mistakes:
+            with self.assertRaisesRegex(casetext.Mistake, "line %d: " % text.count("\n")):
+                casetext.encode(text)
+
+    def test_complement_of_b(self):
+        text = "memory n=1 w=1\nnode a = (8 0 1)\nnode c = (8 1 0)\ncheck b=!a address=0 data=0\n"
+        self.assertEqual(parse(casetext.encode(text)).accesses[0].control, [3])
+
+    def test_order_of_bits(self):
+        data = casetext.encode("memory n=2 w=3\nnode a = (8 0 1)\nnode b = (8 1 0)\n"
+                               "write enable=!a address=0,a data=1X0\n")
+        access = parse(data).accesses[0]
+        self.assertEqual(access.control, [3, 2])
+        self.assertEqual(access.address, [(2, 3), ZERO])
+        self.assertEqual(access.data, [ZERO, X, ONE])
+
+
+class Numbers(unittest.TestCase):
+    def test_generator(self):
+        """The published first numbers of the generator for seed 1234567."""
+        rng = Random(1234567)
+        self.assertEqual([rng.next() for _ in range(3)],
+                         [6457827717110365317, 3203168211198807973, 9817491932198370423])
+
+
+if __name__ == "__main__":
+    unittest.main()

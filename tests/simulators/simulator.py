@@ -1,0 +1,111 @@
+#!/usr/bin/env python3
+"""Simulators to try the arbiter with: a right one, and others that fail each in its way.
+
+    python3 tests/simulators/simulator.py WAY < FILE.case
+"""
+
+import os
+import signal
+import sys
+import time
+
+sys.path.insert(0, os.path.join(os.path.dirname(os.path.abspath(__file__)), os.pardir, os.pardir, "tools"))
+
+from reference import memcase
+
+
+def right_text():
+    return memcase(sys.stdin.buffer.read())
+
+
+def write(text):
+    sys.stdout.write(text)
+    sys.stdout.flush()
+
+
+def right():
+    write(right_text())
+
+
+def loses_unknown():
+    """A bit that is read as unknown is printed as 1."""
+    write(right_text().replace(" 1:1", " 1:0"))
+
+
+def hangs():
+    time.sleep(1000)
+
+
+def hangs_after_text():
+    right()
+    time.sleep(1000)
+
+
+def hangs_with_output_closed():
+    right()
+    os.close(1)
+    time.sleep(1000)
+
+
+def leaves_child():
+    """Ends, and leaves a process behind that keeps the output open; prints its number."""
+    child = os.fork()
+    if child == 0:
+        time.sleep(1000)
+    write("%d\n" % child)
+
+
+def ends_by_signal():
+    os.kill(os.getpid(), signal.SIGTERM)
+
+
+def ends_with_status():
+    sys.exit("the licence\nhas expired\n")
+
+
+def ends_with_status_after_text():
+    right()
+    sys.exit(3)
+
+
+def writes_without_end():
+    while True:
+        write("write 0\n" * 1000)
+
+
+def complains():
+    """The right text, after more standard error than a pipe holds."""
+    sys.stderr.write("warning\n" * 100000)
+    right()
+
+
+def complains_without_end():
+    while True:
+        sys.stderr.write("warning\n" * 1000)
+
+
+def breaks_off():
+    """The right text without its last line."""
+    write("".join(right_text().splitlines(keepends=True)[:-1]))
+
+
+def refuses_after_text():
+    """A refusal that does not stand alone."""
+    write("write 0\nrefused 9 after 1\n")
+
+
+def reads_nothing():
+    pass
+
+
+def writes_nothing():
+    sys.stdin.buffer.read()
+
+
+WAYS = [right, loses_unknown, hangs, hangs_after_text, hangs_with_output_closed, leaves_child, ends_by_signal,
+        ends_with_status, ends_with_status_after_text, writes_without_end, complains, complains_without_end,
+        breaks_off, refuses_after_text, reads_nothing, writes_nothing]
+
+
+if __name__ == "__main__":
+    {way.__name__.replace("_", "-"): way for way in WAYS}[sys.argv[1]]()

@@ -1,0 +1,332 @@
+"""The memory over truth tables, and the calls on any words: what each answers and leaves.
+
+A call is given its record, node words and list as they are, whatever stands in them, and
+answers a `Left`: the number of the row that refuses it or 0, its out-word (None where it has
+none to write), and all that it leaves, the buffers that it does not change among them.  Each
+access is built in the paper's order, no step left out, so that nodes are numbered and counted
+as the paper counts them and refusal 9 comes where it must.  Names are the paper's (01).
+"""
+
+from collections import namedtuple
+
+from tables import TERMINALS, USER_VARIABLE, VARIABLES, Conditions, Refused, is_standard, node_capacity
+
+ENTRY_LIMIT = 4096
+
+Record = namedtuple("Record", "n w nodes entries assert_condition check_condition")
+Entry = namedtuple("Entry", "h s address data")
+
+# The accesses, numbered as in a case file, and the other calls.
+WRITE, READ, ASSERT, CHECK, FRESH, EVALUATE, VARIABLE, ITE = range(1, 9)
+NAMES = {WRITE: "write", READ: "read", ASSERT: "assert", CHECK: "check", FRESH: "fresh", EVALUATE: "evaluate",
+         VARIABLE: "variable", ITE: "ite"}
+
+# A call's arguments: `control` is the enable's words, or b alone; `other` is what is no slice
+# in the four other calls: n and w; a node and an assignment; a variable; f, g and h.
+Call = namedtuple("Call", "kind control address data other", defaults=((), (), (), ()))
+
+# What a call answers and leaves; `data` are the words of a read's answer, or the data as lent.
+Left = namedtuple("Left", "number out record nodes list data")
+
+
+def in_range(n, w):
+    return 1 <= n <= 8 and 1 <= w <= 16
+
+
+def entry_size(n, w):
+    return 2 + 2 * n + 2 * w
+
+
+def list_capacity(n, w, list_words):
+    return min(list_words // entry_size(n, w), ENTRY_LIMIT)
+
+
+def pairs(words):
+    return list(zip(words[0::2], words[1::2]))
+
+
+def halves(word):
+    return [half for pair in word for half in pair]
+
+
+class Memory:
+    """The accesses over tables, each step in the paper's order."""
+
+    def __init__(self, n, w, conditions, list_words):
+        self.n = n
+        self.w = w
+        self.conditions = conditions
+        self.entry_capacity = list_capacity(n, w, list_words)
+        self.entries = []
+        self.assert_condition = conditions.true
+        self.check_condition = conditions.true
+
+    def record(self):
+        numbers = self.conditions.numbers
+        return Record(self.n, self.w, self.conditions.count(), len(self.entries),
+                      numbers[self.assert_condition], numbers[self.check_condition])
+
+    def enter(self, control, address, data):
+        """Write without its tests: build h and s and append the entry."""
+        c = self.conditions
+        hard = c.and_(control[0], c.not_(control[1]))
+        unique = c.true
+        for h, l in address:
+            unique = c.and_(unique, c.not_(c.and_(h, l)))
+        entry_h = c.and_(hard, unique)
+        entry_s = c.or_(c.and_(*control), c.and_(hard, c.not_(unique)))
+        self.entries.append(Entry(entry_h, entry_s, address, data))
+
+    def entry_words(self, first):
+        """The list words of the entries from `first` on."""
+        numbers = self.conditions.numbers
+        return [numbers[x] for e in self.entries[first:] for x in [e.h, e.s] + halves(e.address) + halves(e.data)]
+
+    def need_space(self):
+        if len(self.entries) >= self.entry_capacity:
+            raise Refused(8)
+
+    def narrow(self, inside, address):
+        c = self.conditions
+        for i, (h, l) in enumerate(address):
+            inside = c.and_(inside, c.ite(c.index(i), h, l))
+        return inside
+
+    def look(self, address):
+        c = self.conditions
+        inside = self.narrow(c.true, address)
+        word = [c.true] * (2 * self.w)
+        for entry in self.entries:
+            match = self.narrow(inside, entry.address)
+            hard = c.and_(match, entry.h)
+            soft = c.and_(match, entry.s)
+            word = [c.ite(hard, e, c.ite(soft, c.or_(e, r), r)) for e, r in zip(halves(entry.data), word)]
+        return pairs([c.any(c.and_(inside, r)) for r in word])
+
+    def inside(self, words, others):
+        """Where each bit of `words` admits nothing that the bit of `others` does not."""
+        c = self.conditions
+        result = c.true
+        for pair, other in zip(words, others):
+            for half, bound in zip(pair, other):
+                result = c.and_(result, c.or_(c.not_(half), bound))
+        return result
+
+    def write(self, control, address, data):
+        self.need_space()
+        self.enter(control, address, data)
+        return len(self.entries) - 1
+
+    def read(self, control, address):
+        c = self.conditions
+        word = self.look(address)
+        enabled = c.and_(control[0], c.not_(control[1]))
+        return [(c.ite(enabled, h, c.true), c.ite(enabled, l, c.true)) for h, l in word]
+
+    def check(self, b, address, data):
+        c = self.conditions
+        word = self.look(address)
+        holds = self.inside(word, data)
+        self.check_condition = c.and_(self.check_condition, c.or_(c.not_(b), holds))
+
+    def assert_(self, b, address, data):
+        c = self.conditions
+        word = self.look(address)
+        within = self.inside(data, word)
+        self.assert_condition = c.and_(self.assert_condition, c.or_(c.not_(b), within))
+        holds = self.inside(word, data)
+        if c.or_(c.not_(b), c.and_(within, holds)) == c.true:
+            return "kept"
+        self.need_space()
+        self.enter((b, c.not_(b)), address, data)
+        return "entered"
+
+
+def row_5(nodes, words):
+    """An access's or Ite's node not below the count, or on an index variable."""
+    return any(word >= len(nodes) or nodes[word][0] < USER_VARIABLE for word in set(words))
+
+
+def store_nodes(record, words):
+    """Row 2, and the store's nodes, three words each."""
+    count = record.nodes
+    if len(words) < 6 or not 2 <= count <= node_capacity(len(words)):
+        raise Refused(2)
+    nodes = [tuple(words[i:i + 3]) for i in range(0, 3 * count, 3)]
+    if nodes[:2] != TERMINALS or not is_standard(nodes[2:]):
+        raise Refused(2)
+    return nodes
+
+
+def supports(nodes):
+    """The variables that each node turns on, bit v for variable v."""
+    found = [0, 0]
+    for variable, low, high in nodes[2:]:
+        found.append(1 << variable | found[low] | found[high])
+    return found
+
+
+def tables_of(nodes, roots, index_bits, capacity):
+    """Tables over the index variables and those that some nodes turn on, and the store's nodes in them."""
+    used = (1 << index_bits) - 1
+    reached = supports(nodes)
+    for root in roots:
+        used |= reached[root]
+    conditions = Conditions([v for v in range(VARIABLES) if used >> v & 1], capacity)
+    conditions.load(nodes[2:])
+    return conditions
+
+
+def value(nodes, node, assignment):
+    """A node's value under one assignment: the one row of every node's table."""
+    row = [0, 1]
+    for variable, low, high in nodes[2:]:
+        row.append(row[high] if assignment >> variable & 1 else row[low])
+    return row[node]
+
+
+class Access:
+    """An access on a memory that rows 1 and 2 let pass: rows 3 to 9, and what it leaves."""
+
+    def __init__(self, call, record, nodes, node_words, entries):
+        self.call, self.record, self.nodes, self.entries = call, record, nodes, list(entries)
+        self.capacity = node_capacity(node_words)
+        self.enabled = call.kind in (WRITE, READ)
+        self.given = [] if call.kind == READ else call.data
+        self.test()
+        roots = [*self.arguments(), *set(self.used_entries()), record.assert_condition, record.check_condition]
+        self.conditions = tables_of(nodes, roots, record.n, self.capacity)
+
+    def arguments(self):
+        return [*self.call.control, *self.call.address, *self.given]
+
+    def used_entries(self):
+        return self.entries[:self.record.entries * entry_size(self.record.n, self.record.w)]
+
+    def test(self):
+        """Rows 3 to 5."""
+        n, w, _, entries, assert_condition, check_condition = self.record
+        call = self.call
+        if entries > list_capacity(n, w, len(self.entries)):
+            raise Refused(3)
+        if row_5(self.nodes, self.used_entries() + [assert_condition, check_condition]):
+            raise Refused(3)
+        if len(call.address) != 2 * n or len(call.data) != 2 * w or self.enabled and len(call.control) != 2:
+            raise Refused(4)
+        if row_5(self.nodes, self.arguments()):
+            raise Refused(5)
+
+    def memory(self):
+        """The memory with the entries as they stand in the list; a write reads none of them."""
+        record, tables = self.record, self.conditions.tables
+        memory = Memory(record.n, record.w, self.conditions, len(self.entries))
+        if self.call.kind == WRITE:
+            memory.entries = [None] * record.entries
+        else:
+            memory.entries = [self.entry(place) for place in range(record.entries)]
+        memory.assert_condition = tables[record.assert_condition]
+        memory.check_condition = tables[record.check_condition]
+        return memory
+
+    def entry(self, place):
+        n, w = self.record[:2]
+        size = entry_size(n, w)
+        h, s, *words = [self.conditions.tables[x] for x in self.entries[place * size:(place + 1) * size]]
+        return Entry(h, s, pairs(words[:2 * n]), pairs(words[2 * n:]))
+
+    def run(self):
+        """Rows 6 to 9 and the access itself: out-word, record, new node words, list and data."""
+        memory, tables, call = self.memory(), self.conditions.tables, self.call
+        control = tuple(tables[x] for x in call.control)
+        address = pairs([tables[x] for x in call.address])
+        given = pairs([tables[x] for x in self.given])
+        test_pairs(self.conditions, call.kind, control, address, given)
+        answer = do_access(memory, call.kind, control, address, given)
+        out = {WRITE: answer, ASSERT: int(answer == "entered")}.get(call.kind)
+        numbers = self.conditions.numbers
+        data = [numbers[x] for x in halves(answer)] if call.kind == READ else list(call.data)
+        new = memory.entry_words(self.record.entries)
+        start = len(self.used_entries())
+        self.entries[start:start + len(new)] = new
+        return out, memory.record(), self.conditions.words(self.record.nodes), self.entries, data
+
+
+def test_pairs(conditions, kind, control, address, data):
+    """Rows 6 and 7."""
+    asked = address + data + ([control] if kind in (WRITE, READ) else [])
+    if any(h | l != conditions.true for h, l in asked):
+        raise Refused(6)
+    if kind == ASSERT and any(control[0] & h & l for h, l in address):
+        raise Refused(7)
+
+
+def do_access(memory, kind, control, address, data):
+    """Rows 8 and 9, and the access itself; its answer."""
+    if kind == WRITE:
+        return memory.write(control, address, data)
+    if kind == READ:
+        return memory.read(control, address)
+    if kind == ASSERT:
+        return memory.assert_(control[0], address, data)
+    return memory.check(control[0], address, data)
+
+
+def node_call(call, record, nodes, node_words):
+    """Evaluate, variable or Ite: out-word, record and new node words."""
+    if call.kind == EVALUATE:
+        node, assignment = call.other
+        if node >= record.nodes:
+            raise Refused(5)
+        return value(nodes, node, assignment), record, []
+    capacity = node_capacity(node_words)
+    if call.kind == VARIABLE:
+        variable, = call.other
+        if not USER_VARIABLE <= variable < VARIABLES:
+            raise Refused(5)
+        conditions = Conditions([variable], capacity)
+        conditions.load(nodes[2:])
+        made = conditions.make(variable, 0, conditions.true)
+    else:
+        if row_5(nodes, call.other):
+            raise Refused(5)
+        conditions = tables_of(nodes, call.other, 0, capacity)
+        made = conditions.ite(*[conditions.tables[x] for x in call.other])
+    return conditions.numbers[made], record._replace(nodes=conditions.count()), conditions.words(record.nodes)
+
+
+def fresh(call, node_words):
+    n, w = call.other
+    if not in_range(n, w):
+        raise Refused(1)
+    if node_words < 6:
+        raise Refused(2)
+    return Record(n, w, 2, 0, 1, 1)
+
+
+def accepted(call, record, words, entries):
+    """What a call leaves that no row refuses."""
+    if call.kind == FRESH:
+        after = fresh(call, len(words))
+        return Left(0, None, after, halves(TERMINALS) + words[6:], list(entries), list(call.data))
+    if not in_range(record.n, record.w):
+        raise Refused(1)
+    nodes = store_nodes(record, words)
+    if call.kind in (EVALUATE, VARIABLE, ITE):
+        out, after, new = node_call(call, record, nodes, len(words))
+        entries, data = list(entries), list(call.data)
+    else:
+        out, after, new, entries, data = Access(call, record, nodes, len(words), entries).run()
+    start = 3 * record.nodes
+    return Left(0, out, after, words[:start] + new + words[start + len(new):], entries, data)
+
+
+def run(call, record, words, entries):
+    """What a call answers and leaves.  Raises TooManyVariables where tables do not do."""
+    words = list(words)
+    try:
+        return accepted(call, record, words, entries)
+    except Refused as refused:
+        if refused.number == 9 or refused.number == 8 and call.kind == ASSERT:
+            start, end = 3 * record.nodes, 3 * node_capacity(len(words))
+            words[start:end] = [0] * (end - start)
+        return Left(refused.number, None, record, words, list(entries), list(call.data))
