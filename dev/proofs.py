@@ -225,7 +225,7 @@ class FromGoals:
         self.faults, self.records, self.needs = [], {}, {}
         for path in sorted(glob.glob(os.path.join(glob.escape(folder), "Lts*.antt"))):
             member = re.search(r"Lts-?(.*)\.antt$", path).group(1).replace("_", "-")
-            self.records[member], self.needs[member] = read_goals(open(path, encoding="utf-8").read())
+            self.records[member], self.needs[member] = read_goals(read(path))
         if not self.records:
             raise Fault("%s: the prover wrote nothing for it: does the crate's code parse, and is the folder's name right?" % where)
 
@@ -268,7 +268,9 @@ def read_goals(source):
 
 def named(text, places):
     """A committed text with names for its paths. A path that `places` does not have is a fault."""
-    faults, out = list(places.faults), []
+    if places.faults:
+        raise Fault(*places.faults)
+    faults, out = [], []
     for section in sections(text):
         if not section.known:
             out += section.lines
@@ -384,12 +386,13 @@ def proofs_of(base, crate):
 
 
 def crates_of(base):
-    lines = (line.split("#")[0] for line in open(os.path.join(base, "crates.txt"), encoding="utf-8"))
+    lines = (line.split("#")[0] for line in read(os.path.join(base, "crates.txt")).split("\n"))
     return [line.split(":")[0].strip() for line in lines if ":" in line]
 
 
 def read(path):
-    return open(path, encoding="utf-8", newline="").read()
+    with open(path, encoding="utf-8", newline="") as f:
+        return f.read()
 
 
 def write(path, text):
@@ -402,7 +405,7 @@ def code_sum(base):
     """Of the code of all crates: what the places of a function hang on."""
     total = hashlib.sha256()
     for path in sorted(glob.glob(os.path.join(glob.escape(base), "crates", "*", "src", "**", "*.rt"), recursive=True)):
-        total.update(os.path.relpath(path, base).encode() + b"\0" + open(path, "rb").read())
+        total.update((os.path.relpath(path, base) + "\0" + read(path)).encode())
     return total.hexdigest()
 
 
@@ -447,8 +450,8 @@ def do_follow(base, crate, fns):
     for fn in fns or proofs_of(base, crate):
         path = proof_path(base, crate, fn)
         text = read(path)
+        middle = named(text, FromFile(text))
         try:
-            middle = named(text, FromFile(text))
             after = put(middle, from_goals(base, crate, fn))
         except Fault as fault:
             bad += 1
