@@ -5,6 +5,8 @@
   dev/claims.py check     fail where that page is out of date, where an edit lacks its lines or does not fit the files,
                           where nothing has the name of what it says refuses it, or where docs/CLAIMS.md cites a file
                           or a name that is not there
+  dev/claims.py try CRATE EDIT..   apply each of these edits to a copy of its crate, check that, and say what refuses it first
+                          (`rt check CRATE` before, for what stands below it)
 
 An edit begins with three lines, each once and in this order:
 
@@ -16,7 +18,10 @@ An edit begins with three lines, each once and in this order:
 import glob
 import os
 import re
+import shutil
+import subprocess
 import sys
+import time
 
 PAGE = "docs/WRONG-PROGRAMS.md"
 CLAIMS = "docs/CLAIMS.md"
@@ -217,7 +222,59 @@ def do_check(base):
     return 1 if faults else 0
 
 
+def applied(base, edit):
+    """A copy of the edit's crate with the edit applied, below target/."""
+    folder = os.path.join(base, "target", "edits", edit.label, edit.crate)
+    shutil.rmtree(folder, ignore_errors=True)
+    for top in ("src", "specs", "proofs"):
+        if os.path.isdir(os.path.join(base, "crates", edit.crate, top)):
+            shutil.copytree(os.path.join(base, "crates", edit.crate, top), os.path.join(folder, top))
+    for name, old, new in edit.changes:
+        text = read(os.path.join(folder, name)).replace(old, new)
+        with open(os.path.join(folder, name), "w", encoding="utf-8") as f:
+            f.write(text)
+    return folder
+
+
+def below(base, crate):
+    """What a crate stands on: the libraries of the repository, and the others."""
+    lines = [line.split("#")[0].split(":") for line in read(os.path.join(base, "crates.txt")).split("\n") if ":" in line.split("#")[0]]
+    deps = {name.strip(): rest.split() for name, rest in lines}
+    found, todo = [], [crate]
+    while todo:
+        todo = [d for c in todo for d in deps.get(c, []) if d not in found]
+        found += sorted(set(todo))
+    return [d for d in found if d in deps], [d for d in found if d not in deps]
+
+
+def refusals(output):
+    """Where a check refuses, and the declarations: the first few."""
+    return ["%s `%s`" % m for m in re.findall(r"(?m)^\S*?/((?:proofs|specs|src)/\S+?): error: `([^`]*)`", output)][:4]
+
+
+def do_try(base, crate, labels):
+    status = 0
+    for edit in edits(base):
+        if edit.crate != crate or edit.label not in labels:
+            continue
+        began, (own, others) = time.time(), below(base, crate)
+        words = ["rt", "check", applied(base, edit)] + (["--deps", ",".join(others)] if others else [])
+        words += [word for d in own for word in ("--extern", "%s=%s" % (d, os.path.join(base, "target", "rlib", d + ".rlib")))]
+        run = subprocess.run(words, capture_output=True, text=True, cwd=base)
+        output = run.stdout + run.stderr
+        if "logic=not-proved" not in output:
+            said, status = "NOT REFUSED" if run.returncode == 0 else "did not reach the prover:\n" + output[:600], 1
+        elif "has no `Need-" in output:
+            said, status = "refused for its shape alone: the proof file does not fit the code", 1
+        else:
+            said = "refused, first by " + "; ".join(refusals(output))
+        print("%s/%s: %s (%.0f s)" % (crate, edit.label, said, time.time() - began), flush=True)
+    return status
+
+
 def main(words):
+    if len(words) > 2 and words[0] == "try":
+        return do_try(root(), words[1], words[2:])
     if words == ["table"]:
         return do_table(root())
     if words == ["check"]:

@@ -119,6 +119,18 @@ class Claims(unittest.TestCase):
             "docs/CLAIMS.md:1: there is no low/src/main.rt",
             "docs/CLAIMS.md:2: there is no `Rec` in high/src/lib.rt"])
 
+    def test_applied(self):
+        """An edit is applied to a copy, and what its crate stands on is found."""
+        sys.path.insert(0, os.path.join(ROOT, "dev"))
+        import claims
+        edit = next(e for e in claims.edits(self.base) if e.label == "reads")
+        with open(os.path.join(claims.applied(self.base, edit), "src", "lib.rt"), encoding="utf-8") as f:
+            self.assertEqual(f.read(), FILES["crates/high/src/lib.rt"].replace("    1", "    0"))
+        self.assertEqual(self.read("crates/high/src/lib.rt"), FILES["crates/high/src/lib.rt"])
+        self.write("crates.txt", "low:\nmiddle: low io\nhigh: middle libc\n")
+        self.assertEqual(claims.below(self.base, "high"), (["middle", "low"], ["libc", "io"]))
+        self.assertEqual(claims.refusals("/a/b/proofs/ClearLaws.antt:27:18: error: `clear-zero`: no\n  more\n"), ["proofs/ClearLaws.antt:27:18 `clear-zero`"])
+
     def test_usage(self):
         self.assertEqual(self.run_it().returncode, 2)
 
