@@ -5,6 +5,7 @@
   dev/proofs.py put CRATE FN          write that file back to crates/CRATE/proofs/FN/Proof.antt, for the code as it is now
   dev/proofs.py follow CRATE [FN..]   name and put at once: the paths of these proofs (or of all) follow changed code
   dev/proofs.py paths CRATE FN [NEED..]   what is known at each need, and where
+  dev/proofs.py laws WORD..           the laws whose statement has all these words, as `laws appended length`
   dev/proofs.py check [CRATE..]       every proof file named and put back gives the same bytes; needs no prover
   dev/proofs.py check --goals CRATE.. the same, with the places that the prover has, which takes as long as a check
   dev/proofs.py dev CRATE [-w] [-o] [-n]  rt dev with a short account: errors and goals, names cut to their last part.
@@ -436,6 +437,20 @@ def do_name(base, crate, fn):
     print(os.path.relpath(path, base))
 
 
+def laws(text):
+    """The declarations of a file of laws that others may cite: line, name and statement."""
+    for m in re.finditer(r"(?m)^ *pub ([^\s:]+) :((?:.*)(?:\n +→.*)*)", text):
+        yield text.count("\n", 0, m.start()) + 1, m.group(1), re.sub(r"\s+", " ", m.group(2)).strip()
+
+
+def do_laws(base, words):
+    for path in sorted(glob.glob(os.path.join(glob.escape(base), "crates", "*", "proofs", "**", "*.antt"), recursive=True)):
+        if os.path.basename(path) != "Proof.antt":
+            for line, name, statement in laws(read(path)):
+                if all(re.search(r"(?<![^\s(){}.,])" + re.escape(word) + r"(?![^\s(){}.,])", name + " " + statement) for word in words):
+                    print("%s:%d: %s : %s" % (os.path.relpath(path, base), line, name, statement))
+
+
 def do_put(base, crate, fn):
     path = named_path(base, crate, fn)
     if not os.path.exists(path):
@@ -574,6 +589,8 @@ def main(words):
         return do_check(root(), rest, "--goals" in flags)
     if command == "dev" and len(rest) == 1:
         return do_dev(root(), rest[0], flags)
+    if command == "laws" and rest:
+        return do_laws(root(), rest)
     if command == "follow" and rest:
         return do_follow(root(), rest[0], rest[1:])
     if command == "paths" and len(rest) >= 2:

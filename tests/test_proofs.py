@@ -205,6 +205,12 @@ class TheCommand(unittest.TestCase):
         self.assertEqual(self.run_it(ROOT).returncode, 2)
 
 
+class Laws(unittest.TestCase):
+    def test_laws(self):
+        text = "-- bytes\npub put-full : (b : ℕ) → put b o ≡ o\nput-full b = refl\n\nown : ℕ\n\nmodule _ where\n  pub put-more : a < b\n      → put a ≡ put b\n  unfolding put\n"
+        self.assertEqual(list(proofs.laws(text)), [(2, "put-full", "(b : ℕ) → put b o ≡ o"), (8, "put-more", "a < b → put a ≡ put b")])
+
+
 class Accounts(unittest.TestCase):
     OUTPUT = """fn text::put_byte: proved
 proofs/put_bytes/Proof.antt:35:245: error: `loop-again`: no
