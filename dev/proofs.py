@@ -79,39 +79,46 @@ def sections(text):
     return out
 
 
-def path_pattern(names):
-    heads = "|".join(sorted(map(re.escape, names), key=len, reverse=True))
-    return r"(?<![^\s(,;\[{⟨])(" + heads + r")((?: \.before)*)(?: \.(" + FIELD + r"))?(?![^\s(),;\]}⟩])"
-
-
-def name_pattern(names):
-    heads = "|".join(sorted(map(re.escape, names), key=len, reverse=True))
-    return r"(?<![^\s(,;\[{⟨])(" + heads + r")@(" + FIELD + r")"
+HEAD = r"(?<![^\s(,;\[{⟨])(?P<head>%s)"
+PATH = HEAD + r"(?P<befores>(?: \.before)*)(?: \.(?P<field>" + FIELD + r"))?(?![^\s(),;\]}⟩])"
+NAME = HEAD + r"@(?P<name>" + FIELD + r")"
+LET = r"\blet (?P<let>[^\s()]+) = |"
 
 
 def walk(section, pattern, one, bound):
-    """Each path of a section in turn goes through `one`; a variable that a `let` gives a place is followed."""
-    bases = {"c": 0}
-    out = []
+    """Each path of a section in turn goes through `one`; a variable that a `let` gives a place is followed, until a `let` gives it another value."""
+    bases, out = {"c": 0}, []
     for number, line in enumerate(section.lines, section.first):
-        at, done = 0, []
+        at, done, let = 0, [], None
         while True:
-            m = re.compile(pattern(bases)).search(line, at)
+            m = re.compile(LET + pattern % "|".join(map(re.escape, bases))).search(line, at)
             if not m:
                 break
             done.append(line[at:m.start()])
-            done.append(one(number, bases[m.group(1)], m))
-            let = re.search(r"\blet ([^\s()]+) = $", line[:m.start()])
-            depth = bound(bases[m.group(1)], m)
-            if let and depth is not None and line[m.end():].startswith(" in"):
-                bases[let.group(1)] = depth
+            if m.group("let"):
+                let = (m.group("let"), m.end())
+                done.append(m.group(0))
+                if let[0] != "c":
+                    bases.pop(let[0], None)
+            else:
+                base = bases[m.group("head")]
+                done.append(one(number, base, m))
+                depth = bound(base, m)
+                if let and let[1] == m.start() and depth is not None and line[m.end():].startswith(" in"):
+                    bases[let[0]] = depth
             at = m.end()
         out.append("".join(done) + line[at:])
     return out
 
 
-def count(befores):
-    return befores.count(".before")
+def depth_of(base, m):
+    """How far back a path leads."""
+    return base + m.group("befores").count(".before")
+
+
+def bare(base, m):
+    """The same of a path that leads to a place itself."""
+    return None if m.group("field") else depth_of(base, m)
 
 
 # ---- where things stand: by the file itself, or by the prover
@@ -169,14 +176,14 @@ class FromFile:
 
     def read(self, section):
         def one(number, base, m):
-            depth, taker = base + count(m.group(2)), self.taker(m)
-            if m.group(3):
-                self.stands(section, number, depth, m.group(3))
+            depth, taker = depth_of(base, m), self.taker(m)
+            if m.group("field"):
+                self.stands(section, number, depth, m.group("field"))
             elif taker and not self.numbering.apart(owner(section), owner(taker), depth):
                 self.faults.append("line %d: `%s` does not stand at the end of this path" % (number, taker.place))
             return m.group(0)
 
-        walk(section, path_pattern, one, lambda base, m: None if m.group(3) else base + count(m.group(2)))
+        walk(section, PATH, one, bare)
 
     def taker(self, m):
         """The declaration of this file that a bare path is given to, where it says at which place it stands."""
@@ -278,21 +285,21 @@ def named(text, places):
             continue
 
         def one(number, base, m, section=section):
-            depth, field = base + count(m.group(2)), m.group(3)
+            depth, field = depth_of(base, m), m.group("field")
             if field:
                 if places.thing(section, field) != depth:
                     faults.append("line %d: no `%s` at the end of this path" % (number, field))
                     return m.group(0)
-                return m.group(1) + "@" + field
-            if not m.group(2):
+                return m.group("head") + "@" + field
+            if not m.group("befores"):
                 return m.group(0)
             place = places.place_at(section, depth)
             if not place or places.place(section, place) != depth:
                 faults.append("line %d: a path to a place that has no name" % number)
                 return m.group(0)
-            return m.group(1) + "@" + place
+            return m.group("head") + "@" + place
 
-        out += walk(section, path_pattern, one, lambda base, m: None if m.group(3) else base + count(m.group(2)))
+        out += walk(section, PATH, one, bare)
     if faults:
         raise Fault(*faults)
     return "\n".join(fold(line) for line in out)
@@ -306,20 +313,25 @@ def put(text, places):
             out += section.lines
             continue
 
-        def depth_of(name, section=section):
-            return places.place(section, name) if name[0].isupper() else places.thing(section, name)
+        def stands(m, section=section):
+            return places.place(section, m.group("name")) if is_place(m) else places.thing(section, m.group("name"))
 
         def one(number, base, m, section=section):
-            depth = depth_of(m.group(2))
+            depth = stands(m)
             if depth is None or depth < base:
-                faults.append("`%s`: no `%s` here; there are: %s" % (section.name, m.group(2), " ".join(places.names(section)) or "none, since the code has no such need"))
+                there = " ".join(places.names(section)) or "none, since the code has no such need"
+                faults.append("`%s`: no `%s` here; there are: %s" % (section.name, m.group("name"), there))
                 return m.group(0)
-            return m.group(1) + " .before" * (depth - base) + ("" if m.group(2)[0].isupper() else " ." + m.group(2))
+            return m.group("head") + " .before" * (depth - base) + ("" if is_place(m) else " ." + m.group("name"))
 
-        out += walk(section, name_pattern, one, lambda base, m: depth_of(m.group(2)) if m.group(2)[0].isupper() else None)
+        out += walk(section, NAME, one, lambda base, m: stands(m) if is_place(m) else None)
     if faults:
         raise Fault(*faults)
     return "\n".join(out)
+
+
+def is_place(m):
+    return m.group("name")[0].isupper()
 
 
 def fold(line):

@@ -115,6 +115,14 @@ class ThereAndBack(Places):
         self.assertIn("(down (c@Then1))", named)
         self.assertEqual(proofs.put(named, proofs.FromFile(text)), text)
 
+    def test_a_variable_of_two_lets(self):
+        """A variable that another `let` gives a value that is no place is left alone from there on."""
+        text = ("returns : tie.Need-returns\nreturns c =\n    let a = c .before in\n    let b = f (a .put-byte .ensures) in\n"
+                "    let a = g b in\n    h (a .put-byte) (c .before .put-byte .result)\n")
+        named = proofs.named(text, proofs.FromFile(text))
+        self.assertIn("let a = c@After-put-byte in\n    let b = f (a@put-byte .ensures) in\n    let a = g b in\n    h (a .put-byte) (c@put-byte .result)", named)
+        self.assertEqual(proofs.put(named, proofs.FromFile(text)), text)
+
     def test_other_records(self):
         """`.before` of a declaration that is about no place stays as it is."""
         text = "law : (c : Ruling) → ℕ\nlaw c = taken (c .before .x)\n"
