@@ -274,8 +274,8 @@ def read_goals(source):
 
 # ---- there and back
 
-def named(text, places):
-    """A committed text with names for its paths. A path that `places` does not have is a fault."""
+def named(text, places, notes=None):
+    """A committed text with names for its paths. A path that `places` does not have is a fault; one to a place that has no name stays, and is noted."""
     if places.faults:
         raise Fault(*places.faults)
     faults, out = [], []
@@ -295,7 +295,8 @@ def named(text, places):
                 return m.group(0)
             place = places.place_at(section, depth)
             if not place or places.place(section, place) != depth:
-                faults.append("line %d: a path to a place that has no name" % number)
+                if notes is not None:
+                    notes.append("line %d: a path to a place that has no name stays as it is" % number)
                 return m.group(0)
             return m.group("head") + "@" + place
 
@@ -443,10 +444,10 @@ def from_goals(base, crate, fn):
 # ---- the commands
 
 def do_name(base, crate, fn):
-    text = read(proof_path(base, crate, fn))
+    text, notes = read(proof_path(base, crate, fn)), []
     path = named_path(base, crate, fn)
-    write(path, named(text, FromFile(text)))
-    print(os.path.relpath(path, base))
+    write(path, named(text, FromFile(text), notes))
+    print("\n".join([os.path.relpath(path, base)] + notes))
 
 
 def laws(text):
@@ -475,9 +476,9 @@ def do_put(base, crate, fn):
 def do_follow(base, crate, fns):
     bad = 0
     for fn in fns or proofs_of(base, crate):
-        path = proof_path(base, crate, fn)
+        path, notes = proof_path(base, crate, fn), []
         text = read(path)
-        middle = named(text, FromFile(text))
+        middle = named(text, FromFile(text), notes)
         try:
             after = put(middle, from_goals(base, crate, fn))
         except Fault as fault:
@@ -489,7 +490,7 @@ def do_follow(base, crate, fns):
             continue
         if after != text:
             write(path, after)
-            print("%s follows" % os.path.relpath(path, base))
+            print("\n".join(["%s follows" % os.path.relpath(path, base)] + ["  " + note for note in notes]))
     return 1 if bad else 0
 
 
@@ -509,27 +510,28 @@ def do_paths(base, crate, fn, only):
                     print("    c@%s%s   %s" % (field, " (." + " .".join(own) + ")" if own else "", "" if place == chain[0][0] else "from " + place))
 
 
-def check_file(text, places):
+def check_file(text, places, notes=None):
     """What is wrong with the round trip of one text."""
     try:
-        back = put(named(text, places), places)
+        back = put(named(text, places, notes), places)
     except Fault as fault:
         return fault.lines
     return [] if back == text else ["put back, it is not the same bytes"]
 
 
 def do_check(base, crates, by_goals):
-    files = paths = bad = 0
+    files, paths, bad, notes = 0, 0, 0, []
     for crate in crates or crates_of(base):
         for fn in proofs_of(base, crate):
             text = read(proof_path(base, crate, fn))
             files += 1
             paths += len(re.findall(r"(?: \.before)+", text))
-            faults = check_file(text, from_goals(base, crate, fn) if by_goals else FromFile(text))
+            faults = check_file(text, from_goals(base, crate, fn) if by_goals else FromFile(text), notes)
             for line in faults:
                 print("crates/%s/proofs/%s/Proof.antt: %s" % (crate, fn, line))
             bad += bool(faults)
-    print("proofs: %d files, %d paths, %s" % (files, paths, "%d do not come back" % bad if bad else "each comes back the same"))
+    unnamed = ", %d to a place without a name" % len(notes) if notes else ""
+    print("proofs: %d files, %d paths%s, %s" % (files, paths, unnamed, "%d files do not come back" % bad if bad else "each comes back the same"))
     return 1 if bad else 0
 
 

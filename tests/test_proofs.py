@@ -176,8 +176,10 @@ class WhatDoesNotComeBack(Places):
         self.assertEqual(faults, ["line 7: no `sum` at the end of this path"])
 
     def test_a_place_without_a_name(self):
-        text = "returns : tie.Need-returns\nreturns c = f (c .before .before)\n"
-        self.assertEqual(proofs.check_file(text, proofs.FromFile(text)), ["line 2: a path to a place that has no name"])
+        """A path to a place that nothing in the file names stays, and is noted."""
+        text, notes = "returns : tie.Need-returns\nreturns c = f (c .before .before)\n", []
+        self.assertEqual(proofs.check_file(text, proofs.FromFile(text), notes), [])
+        self.assertEqual(notes, ["line 2: a path to a place that has no name stays as it is"])
 
 
 class TheCommand(unittest.TestCase):
@@ -203,7 +205,7 @@ class TheCommand(unittest.TestCase):
         run = self.run_it(self.repository(COMMITTED.replace("(c .before .put-byte", "(c .before .before .put-byte", 1)), "check")
         self.assertEqual(run.returncode, 1)
         self.assertIn("crates/text/proofs/put_bytes/Proof.antt: line ", run.stdout)
-        self.assertIn("1 do not come back", run.stdout)
+        self.assertIn("1 files do not come back", run.stdout)
 
     def test_no_such_proof(self):
         run = self.run_it(self.repository(COMMITTED), "name", "text", "put_byte")
