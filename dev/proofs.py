@@ -81,7 +81,7 @@ def sections(text):
 
 HEAD = r"(?<![^\s(,;\[{⟨])(?P<head>%s)"
 PATH = HEAD + r"(?P<befores>(?: \.before)*)(?: \.(?P<field>" + FIELD + r"))?(?![^\s(),;\]}⟩])"
-NAME = HEAD + r"@(?P<name>" + FIELD + r")"
+NAME = HEAD + r"(?:@(?P<name>" + FIELD + r")|(?P<befores>(?: \.before)+)(?= in\b))"
 LET = r"\blet (?P<let>[^\s()]+) = |"
 
 
@@ -124,7 +124,7 @@ def bare(base, m):
 # ---- where things stand: by the file itself, or by the prover
 
 class Numbering:
-    """Each thing and each place has one number, its distance from the function's entry. All paths of a file have to agree on it."""
+    """Each thing and each place has a number, its distance from the function's entry, as far as the paths of a file tell."""
 
     def __init__(self):
         self.parent, self.offset = {}, {}
@@ -166,6 +166,8 @@ def owner(section):
 class FromFile:
     """Where things stand, as the paths of a committed file have it."""
 
+    wrong = "the path to `%s` does not agree with the others of this need"
+
     def __init__(self, text):
         self.numbering, self.things, self.faults = Numbering(), {}, []
         parts = sections(text)
@@ -178,7 +180,7 @@ class FromFile:
         def one(number, base, m):
             depth, taker = depth_of(base, m), self.taker(m)
             if m.group("field"):
-                self.stands(section, number, depth, m.group("field"))
+                self.stands(section, depth, m.group("field"))
             elif taker and not self.numbering.apart(owner(section), owner(taker), depth):
                 self.faults.append("line %d: `%s` does not stand at the end of this path" % (number, taker.place))
             return m.group(0)
@@ -190,14 +192,20 @@ class FromFile:
         before = re.search(r"(?<![^\s(])([^\s()]+)(?: [^\s()]+)* \(?$", m.string[:m.start()])
         return self.takers.get(before.group(1)) if before else None
 
-    def stands(self, section, number, depth, field):
-        thing = (section.member, place_of(field) if field in START else field)
-        self.things.setdefault(section.member, {})[thing] = field
-        if not self.numbering.apart(owner(section), thing, depth):
-            self.faults.append("line %d: the path to `%s` does not agree with the other paths of this file" % (number, field))
+    def stands(self, section, depth, field):
+        """A thing has one distance from the entry, but for a branch or a loop, which may have another where its ways meet: then it has one at each need."""
+        shared, own = self.keys(section, field)
+        self.things.setdefault(section.member, {})[shared] = field
+        if own in self.numbering.parent or not self.numbering.apart(owner(section), shared, depth):
+            self.numbering.apart(owner(section), own, depth)
+
+    def keys(self, section, field):
+        name = place_of(field) if field in START else field
+        return (section.member, name), (section.member, section.name, name)
 
     def thing(self, section, field):
-        return self.numbering.between(owner(section), (section.member, place_of(field) if field in START else field))
+        shared, own = self.keys(section, field)
+        return self.numbering.between(owner(section), own if own in self.numbering.parent else shared)
 
     def place(self, section, name):
         for key in ((section.member, name), (section.member, name[6:] if name.startswith("After-") else "")):
@@ -228,6 +236,8 @@ def place_of(field):
 
 class FromGoals:
     """Where things stand, as the modules say that the prover wrote for a function."""
+
+    wrong = "no `%s` at the end of this path"
 
     def __init__(self, folder, where):
         self.faults, self.records, self.needs = [], {}, {}
@@ -284,11 +294,11 @@ def named(text, places, notes=None):
             out += section.lines
             continue
 
-        def one(number, base, m, section=section):
+        def one(number, base, m):
             depth, field = depth_of(base, m), m.group("field")
             if field:
                 if places.thing(section, field) != depth:
-                    faults.append("line %d: no `%s` at the end of this path" % (number, field))
+                    faults.append("line %d: %s" % (number, places.wrong % field))
                     return m.group(0)
                 return m.group("head") + "@" + field
             if not m.group("befores"):
@@ -314,10 +324,12 @@ def put(text, places):
             out += section.lines
             continue
 
-        def stands(m, section=section):
+        def stands(m):
             return places.place(section, m.group("name")) if is_place(m) else places.thing(section, m.group("name"))
 
-        def one(number, base, m, section=section):
+        def one(number, base, m):
+            if not m.group("name"):
+                return m.group(0)
             depth = stands(m)
             if depth is None or depth < base:
                 there = " ".join(places.names(section)) or "none, since the code has no such need"
@@ -325,7 +337,12 @@ def put(text, places):
                 return m.group(0)
             return m.group("head") + " .before" * (depth - base) + ("" if is_place(m) else " ." + m.group("name"))
 
-        out += walk(section, NAME, one, lambda base, m: stands(m) if is_place(m) else None)
+        def bound(base, m):
+            if not m.group("name"):
+                return depth_of(base, m)
+            return stands(m) if is_place(m) else None
+
+        out += walk(section, NAME, one, bound)
     if faults:
         raise Fault(*faults)
     return "\n".join(out)

@@ -167,9 +167,14 @@ class ChangedCode(Places):
 
 class WhatDoesNotComeBack(Places):
     def test_paths_that_disagree(self):
-        text = COMMITTED.replace("(c .before .before .loop-test .left)", "(c .before .loop-test .left)")
+        text = COMMITTED.replace("(c .add .result)", "(c .before .loop-test .left)")
         faults = proofs.check_file(text, proofs.FromFile(text))
-        self.assertEqual(faults, ["line 13: the path to `loop-test` does not agree with the other paths of this file"])
+        self.assertEqual(faults, ["line 7: the path to `loop-test` does not agree with the others of this need"])
+
+    def test_ways_that_meet(self):
+        """A thing may stand at another distance at another need."""
+        text = COMMITTED.replace("(c .before .before .loop-test .left)", "(c .before .loop-test .left)").replace("let s = a .before in", "let s = c .before .before .before .before in")
+        self.assertEqual(proofs.check_file(text, proofs.FromFile(text)), [])
 
     def test_a_path_that_the_prover_does_not_have(self):
         faults = proofs.check_file(COMMITTED.replace("c .add .result", "c .sum .result"), self.goals(OLD))
@@ -202,7 +207,7 @@ class TheCommand(unittest.TestCase):
         self.assertEqual((run.returncode, run.stdout), (0, "proofs: 1 files, 7 paths, each comes back the same\n"))
 
     def test_check_fails(self):
-        run = self.run_it(self.repository(COMMITTED.replace("(c .before .put-byte", "(c .before .before .put-byte", 1)), "check")
+        run = self.run_it(self.repository(COMMITTED.replace("(c .add .result)", "(c .put-byte .ensures)")), "check")
         self.assertEqual(run.returncode, 1)
         self.assertIn("crates/text/proofs/put_bytes/Proof.antt: line ", run.stdout)
         self.assertIn("1 files do not come back", run.stdout)
