@@ -42,7 +42,7 @@ SIGNATURE = re.compile(r"(?:pub |abbrev )*([^\s:]+) : ")
 NEED = re.compile(r"(?:\btie|([^\s(]+)-lts)\.(Need-[^\s()]+)")
 PLACE = re.compile(r"\(c : (?:tie|([^\s(]+)-lts)\.([^\s()]+)")
 FIELD = r"[^\s(),;{}.@\d][^\s(),;{}@]*"
-START = ("κs", "args", "blocks", "good", "pre")
+START = ("κs", "args", "fits", "blocks", "good", "pre")
 
 
 class Section:
