@@ -3,7 +3,9 @@
 
   dev/proofs.py name CRATE FN         write the proof of FN with names for places to target/named/CRATE/FN.antt
   dev/proofs.py put CRATE FN          write that file back to crates/CRATE/proofs/FN/Proof.antt, for the code as it is now
-  dev/proofs.py follow CRATE [FN..]   name and put at once: the paths of these proofs (or of all) follow changed code
+  dev/proofs.py follow CRATE [FN..] [OLD=NEW..]   name and put at once: the paths of these proofs (or of all) follow
+                                      changed code; things that the change numbered anew get their new names,
+                                      as `put-byte=put-byte2` where a call of put_byte came before the old one
   dev/proofs.py paths CRATE FN [NEED..]   what is known at each need, and where
   dev/proofs.py laws WORD..           the laws whose statement has all these words, as `laws appended length`
   dev/proofs.py check [CRATE..]       every proof file named and put back gives the same bytes; needs no prover
@@ -348,6 +350,15 @@ def put(text, places):
     return "\n".join(out)
 
 
+def renamed(text, names):
+    """A named text with other names for some things, all at once; places after them follow."""
+    def one(m):
+        after = "After-" if m.group(1).startswith("After-") else ""
+        return "@" + after + names.get(m.group(1)[len(after):], m.group(1)[len(after):])
+
+    return re.sub(r"(?<=\w)@(" + FIELD + ")", one, text)
+
+
 def is_place(m):
     return m.group("name")[0].isupper()
 
@@ -490,12 +501,12 @@ def do_put(base, crate, fn):
     print(os.path.relpath(committed, base))
 
 
-def do_follow(base, crate, fns):
+def do_follow(base, crate, fns, names):
     bad = 0
     for fn in fns or proofs_of(base, crate):
         path, notes = proof_path(base, crate, fn), []
         text = read(path)
-        middle = named(text, FromFile(text), notes)
+        middle = renamed(named(text, FromFile(text), notes), names)
         try:
             after = put(middle, from_goals(base, crate, fn))
         except Fault as fault:
@@ -623,7 +634,8 @@ def main(words):
     if command == "laws" and rest:
         return do_laws(root(), rest)
     if command == "follow" and rest:
-        return do_follow(root(), rest[0], rest[1:])
+        names = dict(word.split("=", 1) for word in rest[1:] if "=" in word)
+        return do_follow(root(), rest[0], [word for word in rest[1:] if "=" not in word], names)
     if command == "paths" and len(rest) >= 2:
         return do_paths(root(), rest[0], rest[1], rest[2:])
     if command in ("name", "put") and len(rest) == 2:

@@ -152,6 +152,15 @@ class ChangedCode(Places):
         after = proofs.put(text, self.goals(NEW))
         self.assertIn("(c .before .before .low .ensures)", after)
 
+    def test_a_call_of_the_same_function_before(self):
+        """The older call has a new name, which is given all at once."""
+        chain = OLD[:2] + [("After-put-byte", "put-byte"), ("After-put-byte2", "put-byte2"), ("After-put-byte3", "put-byte3"), ("After-add", "add")]
+        text = "again : tie.Need-again\nagain c = f (c@put-byte .ensures) (c@put-byte2 .ensures) (c@After-put-byte) (c@put-byte-x)\n"
+        text = proofs.renamed(text, {"put-byte": "put-byte2", "put-byte2": "put-byte3"})
+        self.assertIn("f (c@put-byte2 .ensures) (c@put-byte3 .ensures) (c@After-put-byte2) (c@put-byte-x)", text)
+        after = proofs.put(text.replace(" (c@put-byte-x)", ""), self.goals(chain))
+        self.assertIn("f (c .before .before .put-byte2 .ensures) (c .before .put-byte3 .ensures) (c .before .before)", after)
+
     def test_a_thing_that_is_gone(self):
         """Only the names that are gone are told, with what there is instead."""
         with self.assertRaises(proofs.Fault) as caught:
