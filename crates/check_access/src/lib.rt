@@ -60,7 +60,17 @@ pub fn check_on(
     let s = r.begin();
     let mut word: [u32; 32] = [0; 32];
     let w = r.w as usize;
-    let v = check_builds(r, words, list, table, s, b, address, data, &mut word[..2 * w]);
+    let v = check_builds(
+        r,
+        words,
+        list,
+        table,
+        s,
+        b,
+        address,
+        data,
+        &mut word[..2 * w],
+    );
     if rows::clear_where(words, r.count, v.store.full) {
         return Done { after: r, row: 9 };
     }

@@ -14,14 +14,13 @@ ghost use Rattle.rows.specs.Contract.{recordOf, stateOf, argumentRows, c
 mod append;
 mod slices;
 
+use access::ControlNode;
+use access::Marks;
 pub use append::copy;
+use conditions::Store;
 pub use slices::apart;
 pub use slices::legal_pairs;
 pub use slices::users_up_to;
-
-use access::ControlNode;
-use access::Marks;
-use conditions::Store;
 
 // A record's fields: n address bits and w data bits, the counts of nodes and entries, and the two conditions.
 pub struct Fields {
