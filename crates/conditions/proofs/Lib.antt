@@ -8,4 +8,5 @@ pub mod ContractLaws
 pub mod AnyLaws
 pub mod FullLaws
 pub mod UserLaws
+pub mod OrderLaws
 pub mod Promises

@@ -12,3 +12,4 @@ pub mod Show
 pub mod Meet
 pub mod Stores
 pub mod Computing
+pub mod Orders
