@@ -5,29 +5,18 @@ use mathlib.Core.List.{List}
 use Prim.Native.Nat.{ℕ, _*_, _<_, _≤_}
 use lib.ListN.{length}
 use Rattle.conditions.specs.Stores.{clearOf}
-use Rattle.conditions.specs.declared.Store.{Store}
-use Rattle.conditions.specs.Build.{Outcome}
 use Rattle.conditions.specs.Contract.{Sound}
 use Rattle.model.specs.Access as model
 use Rattle.model.specs.Step.{Answer, entered, kept, closed, enter}
 use Rattle.access.specs.Contract.{Nodes}
 use Rattle.rows.specs.declared.Fields.{Fields}
 use Rattle.rows.specs.Contract.{stateOf, unlessRefused, Next}
-use Rattle.assert_access.specs.declared.AssertBuilt.{AssertBuilt}
+use Rattle.comparisons.specs.declared.AssertBuilt.{AssertBuilt}
+use Rattle.comparisons.specs.Contract.{builtOf}
 
 -- what an assert answers by its number, and whether it is kept
 abbrev pub assertAnswer : ℕ → Bool → Answer
 assertAnswer k b = unlessRefused k (cond b kept entered)
-
-abbrev pub builtOf : AssertBuilt → model.Asserted
-builtOf q = record { condition = q .condition; unless = q .unless; keep = q .keep }
-
--- what an assert builds before its entry, as `conditions` has it of one node
-pub record AssertBuiltDid (s : Store) (w t : List ℕ) (q : AssertBuilt) (x : Outcome model.Asserted) : Type 0 where
-  pub is : _≡_ {A = Outcome model.Asserted} (record { words = w; store = q .store; answer = builtOf q }) x
-  pub sound : Sound w t (q .store)
-  pub more : s .count ≤ q .store .count
-  pub node : q .unless < q .store .count
 
 -- an assert that has built its conditions, before its entry
 pub record BeforeEntry (r : Fields) (w l table : List ℕ) (b : ℕ) (a d : List ℕ) (q : AssertBuilt) : Type 0 where

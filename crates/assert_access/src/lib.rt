@@ -3,26 +3,16 @@ ghost use mathlib.Core.Path.{_≡_};
 ghost use Prim.Native.Nat.{ℕ, _+_, _*_, _<_, _≤_};
 ghost use lib.ListN.{length};
 ghost use Rattle.conditions.specs.Contract.{Sound};
-ghost use Rattle.model.specs.Access.{Assert};
 ghost use Rattle.model.specs.Rows.{firstRow, assertRows};
 ghost use Rattle.model.specs.Step.{begin, assert};
 ghost use Rattle.model.specs.Frames.{Valid};
-ghost use Rattle.access.specs.Contract.{Nodes, Looks};
 ghost use Rattle.rows.specs.Contract.{recordOf, stateOf, Answers, AnswersOn};
-ghost use Rattle.assert_access.specs.Contract.{assertAnswer, AssertBuiltDid, BeforeEntry, AfterEntry};
+ghost use Rattle.assert_access.specs.Contract.{assertAnswer, BeforeEntry, AfterEntry};
 use access::ControlNode;
 use access::ControlPair;
-use conditions::Store;
+use comparisons::AssertBuilt;
 use conditions::Table;
 use rows::Fields;
-
-// What an assert builds before its entry, and the store that this left.
-pub struct AssertBuilt {
-    pub store: Store,
-    pub condition: u32,
-    pub unless: u32,
-    pub keep: u32,
-}
 
 // The fields after an assert, the number by which it is refused, or 0, and whether it is kept, where it is not refused.
 pub struct AssertDone {
@@ -51,41 +41,6 @@ fn assert_row(
         0
     } else {
         7
-    }
-}
-
-// The assert condition that an assert builds, and what decides whether it is kept; the word is its own.
-fn assert_builds(
-    r: Fields,
-    words: &mut [u32],
-    list: &[u32],
-    table: &mut Table,
-    s: Store,
-    b: ControlNode,
-    address: &[u32],
-    data: &[u32],
-    word: &mut [u32],
-) -> AssertBuilt
-    requires { ⌜ Sound (now words) (now table) s × Looks (r .n) (r .w) (r .entries) (s .count) (now list) (now address) × (length (now word) ≡ 2 * r .w) × (length (now «data») ≡ 2 * r .w) × Nodes (s .count) (now «data») × (b .0 < s .count) × (r .asserted < s .count) ⌝ }
-    ensures { λ x. ⌜ AssertBuiltDid s (now (words .exit)) (now (table .exit)) x (Assert (recordOf r) (now (list .entry)) (b .0) (now (address .entry)) (now («data» .entry)) (now (words .entry)) s) ⌝ }
-{
-    let n = r.n as usize;
-    let w = r.w as usize;
-    let entries = r.entries as usize;
-    let u = access::look(words, table, s, n, w, entries, list, address, word);
-    let x = access::inside(words, table, u, data, word);
-    let v = conditions::not(words, table, x.store, b.0);
-    let y = conditions::or(words, table, v.store, v.node, x.node);
-    let p = conditions::and(words, table, y.store, r.asserted, y.node);
-    let c = access::inside(words, table, p.store, word, data);
-    let z = conditions::and(words, table, c.store, x.node, c.node);
-    let k = conditions::or(words, table, z.store, v.node, z.node);
-    let store = k.store;
-    AssertBuilt {
-        store,
-        condition: p.node,
-        unless: v.node,
-        keep: k.node,
     }
 }
 
@@ -167,7 +122,7 @@ pub fn assert_on(
     let s = r.begin();
     let mut word: [u32; 32] = [0; 32];
     let w = r.w as usize;
-    let q = assert_builds(
+    let q = comparisons::assert_builds(
         r,
         words,
         list,

@@ -2,43 +2,14 @@
 ghost use mathlib.Core.Path.{_≡_};
 ghost use Prim.Native.Nat.{ℕ, _+_, _*_, _<_, _≤_};
 ghost use lib.ListN.{length};
-ghost use Rattle.conditions.specs.Contract.{Sound, Did};
-ghost use Rattle.model.specs.Access.{Check};
+ghost use Rattle.conditions.specs.Contract.{Sound};
 ghost use Rattle.model.specs.Step.{accepted, begin, check};
 ghost use Rattle.model.specs.Frames.{Valid};
-ghost use Rattle.access.specs.Contract.{Nodes, Looks};
 ghost use Rattle.rows.specs.Contract.{recordOf, stateOf, unlessRefused, Answers, AnswersOn};
 use access::ControlNode;
-use conditions::Built;
-use conditions::Store;
 use conditions::Table;
 use rows::Done;
 use rows::Fields;
-
-// The check condition that a check builds; the word is its own.
-fn check_builds(
-    r: Fields,
-    words: &mut [u32],
-    list: &[u32],
-    table: &mut Table,
-    s: Store,
-    b: ControlNode,
-    address: &[u32],
-    data: &[u32],
-    word: &mut [u32],
-) -> Built
-    requires { ⌜ Sound (now words) (now table) s × Looks (r .n) (r .w) (r .entries) (s .count) (now list) (now address) × (length (now word) ≡ 2 * r .w) × (length (now «data») ≡ 2 * r .w) × Nodes (s .count) (now «data») × (b .0 < s .count) × (r .checked < s .count) ⌝ }
-    ensures { λ x. ⌜ Did s (now (words .exit)) (now (table .exit)) x (Check (recordOf r) (now (list .entry)) (b .0) (now (address .entry)) (now («data» .entry)) (now (words .entry)) s) ⌝ }
-{
-    let n = r.n as usize;
-    let w = r.w as usize;
-    let entries = r.entries as usize;
-    let u = access::look(words, table, s, n, w, entries, list, address, word);
-    let c = access::inside(words, table, u, word, data);
-    let x = conditions::not(words, table, c.store, b.0);
-    let y = conditions::or(words, table, x.store, x.node, c.node);
-    conditions::and(words, table, y.store, r.checked, y.node)
-}
 
 // A check of a valid memory: rows 5 to 9, and the check condition.
 pub fn check_on(
@@ -60,7 +31,7 @@ pub fn check_on(
     let s = r.begin();
     let mut word: [u32; 32] = [0; 32];
     let w = r.w as usize;
-    let v = check_builds(
+    let v = comparisons::check_builds(
         r,
         words,
         list,

@@ -4,8 +4,8 @@ use Rattle.conditions.proofs.Promises.{next-is}
 use Rattle.model.specs.Access.{Check, Look, entryStep}
 use Rattle.access.proofs.LoopLaws.{more-nodes}
 use borrow.Author.Needs.{needs}
-use Rattle.check_access.proofs.check_builds.Statement.{statement}
-use Rattle.check_access.proofs.check_builds.Tie as tie
+use Rattle.comparisons.proofs.check_builds.Statement.{statement}
+use Rattle.comparisons.proofs.check_builds.Tie as tie
 
 cast-n : tie.Need-cast-n
 cast-n c = search needs

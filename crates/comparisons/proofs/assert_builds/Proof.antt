@@ -4,8 +4,8 @@ use Rattle.conditions.proofs.Promises.{next-is}
 use native.Mathlib.Omega.{arith}
 use mathlib.Core.Path.{refl, sym, _∙_}
 use borrow.Author.Needs.{needs}
-use Rattle.assert_access.proofs.assert_builds.Statement.{statement}
-use Rattle.assert_access.proofs.assert_builds.Tie as tie
+use Rattle.comparisons.proofs.assert_builds.Statement.{statement}
+use Rattle.comparisons.proofs.assert_builds.Tie as tie
 
 cast-n : tie.Need-cast-n
 cast-n c = search needs
