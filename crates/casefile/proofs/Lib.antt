@@ -1,3 +1,2 @@
 pub mod RestLaws
-pub mod ZeroLaws
 pub mod FitLaws

@@ -65,10 +65,6 @@ pub rest-none : (file : List ℕ) (n i : ℕ) (c : Running) → n ≤ i → rest
 unfolding rest
 rest-none file n i c h = let e : n - i ≡ 0 = omega arith in rw e
 
--- a known kind is one of the four
-pub unknown-not : {k : Kind} → k ≡ kind.Unknown → isKnown k ≡ true → ⊥
-unknown-not e p = false≢true (sym (ap isKnown e) ∙ p)
-
 -- the access at a place
 module _ (file : List ℕ) (c : Running) (p : Progress) (F : Finds p file (c .at) (c .state .rec .n) (c .state .rec .w)) where
   pub one-missing : {k : ℕ} → p .access ≡ access.Refused k → stops k ≡ one file c

@@ -10,7 +10,6 @@ ghost use Rattle.memory.specs.Contract.{stateOf};
 ghost use Rattle.cases.specs.Case.{callOf, done, one, rest, whole};
 ghost use Rattle.entering.specs.Contract.{runningOf, Ready, StepAs};
 ghost use Rattle.casefile.specs.Contract.{endedOf, Finishes};
-use super::calls;
 use crate::CaseAnswer;
 use conditions::Table;
 use entering::Run;
@@ -37,7 +36,7 @@ fn read_access(
     ensures { λ r. ⌜ StepAs r (now (words .exit)) (now (list .exit)) (now (buf .exit)) (now (table .exit)) (done (callOf kind (c .memory .n) (c .memory .w) (numbersAt (now (file .entry)) from (length (now (ops .entry))))) (stateOf (c .memory) (now (words .entry)) (now (list .entry))) (c .at) (out (now (buf .entry)) (c .text))) ⌝ }
 {
     reading::read_numbers(file, from, ops);
-    calls::do_access(kind, words, list, table, buf, c, ops)
+    dispatch::do_access(kind, words, list, table, buf, c, ops)
 }
 
 // The access at the case's place.

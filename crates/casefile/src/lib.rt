@@ -6,8 +6,6 @@ ghost use Rattle.cases.specs.Case.{caseOf, outputOf};
 ghost use Rattle.casefile.specs.Contract.{caseAs, outputAs};
 
 mod accesses;
-mod calls;
-mod zeros;
 
 use memory::Record;
 use text::Text;

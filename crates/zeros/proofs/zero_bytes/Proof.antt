@@ -1,12 +1,12 @@
-use Rattle.casefile.proofs.ZeroLaws.{zerosTo, zeros-none, zeros-more, zeros-all}
+use Rattle.zeros.proofs.ZeroLaws.{zerosTo, zeros-none, zeros-more, zeros-all}
 use denote.Ref.{now}
 use lib.ListN.{length, length-set}
 use Prim.Native.Nat.{_-_, _≤_}
 use mathlib.Core.Path.{_≡_, refl, _∙_}
 use native.Mathlib.Omega.{arith}
 use borrow.Author.Needs.{needs}
-use Rattle.casefile.proofs.zeros.zero_words.Statement.{statement}
-use Rattle.casefile.proofs.zeros.zero_words.Tie as tie
+use Rattle.zeros.proofs.zero_bytes.Statement.{statement}
+use Rattle.zeros.proofs.zero_bytes.Tie as tie
 
 abbrev Inv-loop : tie.InvT-loop
 Inv-loop to₀ i₀ to i = (i ≤ length to₀) × (length to ≡ length to₀) × (to ≡ zerosTo i to₀)
@@ -16,9 +16,6 @@ abbrev μ-loop : tie.MeasureT-loop
 
 loop-holds : tie.Need-loop-holds Inv-loop μ-loop
 loop-holds c = (search needs, refl, zeros-none (now (c .args .to)))
-
-mul-to : tie.Need-mul-to Inv-loop μ-loop
-mul-to c = search needs
 
 slice-write-to : tie.Need-slice-write-to Inv-loop μ-loop
 slice-write-to c = search needs
@@ -38,14 +35,13 @@ same-length c = search needs
 returns : tie.Need-returns Inv-loop μ-loop
 returns c = c .before .loop .inv .2 ∙ zeros-all (c .before .loop .i) (now (c .before .before .args .to)) (omega arith)
 
-pub zero-words-spec : {M : Type 1} → statement M
-zero-words-spec =
+pub zero-bytes-spec : {M : Type 1} → statement M
+zero-bytes-spec =
     tie.close
     (tie.spec
     Inv-loop
     μ-loop
     loop-holds
-    mul-to
     slice-write-to
     add-i
     loop-less

@@ -1,4 +1,4 @@
-// The kind selects the access.
+// The kind byte selects the operation.
 ghost use mathlib.Core.Path.{_≡_};
 ghost use mathlib.Core.Bool.{true};
 ghost use lib.ListN.{length};

@@ -1,10 +1,10 @@
-use Rattle.casefile.proofs.RestLaws.{unknown-not}
+use Rattle.dispatch.proofs.UnknownLaws.{unknown-not}
 use Rattle.reading.proofs.KindLaws.{size-write, size-read, size-assert, size-check}
 use Rattle.reading.specs.Kinds.{sizeOf}
 use mathlib.Core.Path.{ap, _∙_}
 use borrow.Author.Needs.{needs}
-use Rattle.casefile.proofs.calls.do_access.Statement.{statement}
-use Rattle.casefile.proofs.calls.do_access.Tie as tie
+use Rattle.dispatch.proofs.do_access.Statement.{statement}
+use Rattle.dispatch.proofs.do_access.Tie as tie
 
 enum-told : tie.Need-enum-told
 enum-told c = search needs
