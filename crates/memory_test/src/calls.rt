@@ -1,73 +1,9 @@
 // A call of the model on the buffers.
 use crate::lines;
+use called::Done;
 use stored::Item;
 use stored::Words;
 ghost use Prim.Native.Nat.{_≤_};
-
-// What a call returned, its out-word, which is 7 before, and the record.
-pub struct Done {
-    pub row: u32,
-    pub out: u32,
-    pub record: [u32; 6],
-}
-
-fn joined(low: u32, high: u32) -> u64 {
-    low as u64 + 4294967296 * (high as u64)
-}
-
-// A call that is lent no list; b, c and d are n and w, a node and the halves of an assignment, a variable, or f, g and h.
-fn node_call(x: Item, r: [u32; 6], nodes: &mut [u32]) -> Done {
-    let mut record = r;
-    let mut out: u32 = 7;
-    let kind = x.kind;
-    let row = match kind {
-        5 => capi::md_fresh(&mut record, x.b, x.c, nodes),
-        6 => capi::md_evaluate(&record, nodes, x.b, joined(x.c, x.d), &mut out),
-        7 => capi::md_variable(&mut record, nodes, x.b, &mut out),
-        _ => capi::md_ite(&mut record, nodes, x.b, x.c, x.d, &mut out),
-    };
-    Done { row, out, record }
-}
-
-// A write or a read.
-fn enabled(
-    kind: u32,
-    r: [u32; 6],
-    nodes: &mut [u32],
-    list: &mut [u32],
-    enable: &[u32],
-    address: &[u32],
-    data: &mut [u32],
-) -> Done {
-    let mut record = r;
-    let mut out: u32 = 7;
-    let row = if kind == 1 {
-        capi::md_write(&mut record, nodes, list, enable, address, data, &mut out)
-    } else {
-        capi::md_read(&mut record, nodes, list, enable, address, data)
-    };
-    Done { row, out, record }
-}
-
-// An assert or a check.
-fn conditional(
-    kind: u32,
-    r: [u32; 6],
-    nodes: &mut [u32],
-    list: &mut [u32],
-    b: u32,
-    address: &[u32],
-    data: &[u32],
-) -> Done {
-    let mut record = r;
-    let mut out: u32 = 7;
-    let row = if kind == 3 {
-        capi::md_assert(&mut record, nodes, list, b, address, data, &mut out)
-    } else {
-        capi::md_check(&mut record, nodes, list, b, address, data)
-    };
-    Done { row, out, record }
-}
 
 // A length, or the most that it may be.
 fn length(x: u32, most: usize) -> usize
@@ -93,7 +29,7 @@ fn lend(
     let a = length(x.d, address.len());
     let d = length(x.e, data.len());
     if x.kind < 3 {
-        return enabled(
+        return called::enabled(
             x.kind,
             r,
             &mut nodes[..m],
@@ -103,7 +39,7 @@ fn lend(
             &mut data[..d],
         );
     }
-    conditional(
+    called::conditional(
         x.kind,
         r,
         &mut nodes[..m],
@@ -117,7 +53,7 @@ fn lend(
 // A call that is lent so many node words.
 fn lend_nodes(x: Item, r: [u32; 6], nodes: &mut [u32]) -> Done {
     let m = length(x.a, nodes.len());
-    node_call(x, r, &mut nodes[..m])
+    called::node_call(x, r, &mut nodes[..m])
 }
 
 fn once(

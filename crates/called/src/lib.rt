@@ -1,0 +1,67 @@
+// The calls of the model by their kind, on lent slices, for the program that runs stored calls.
+use stored::Item;
+
+// What a call returned, its out-word, which is 7 before, and the record.
+pub struct Done {
+    pub row: u32,
+    pub out: u32,
+    pub record: [u32; 6],
+}
+
+fn joined(low: u32, high: u32) -> u64 {
+    low as u64 + 4294967296 * (high as u64)
+}
+
+// A call that is lent no list; b, c and d are n and w, a node and the halves of an assignment, a variable, or f, g and h.
+pub fn node_call(x: Item, r: [u32; 6], nodes: &mut [u32]) -> Done {
+    let mut record = r;
+    let mut out: u32 = 7;
+    let kind = x.kind;
+    let row = match kind {
+        5 => capi::md_fresh(&mut record, x.b, x.c, nodes),
+        6 => capi::md_evaluate(&record, nodes, x.b, joined(x.c, x.d), &mut out),
+        7 => capi::md_variable(&mut record, nodes, x.b, &mut out),
+        _ => capi::md_ite(&mut record, nodes, x.b, x.c, x.d, &mut out),
+    };
+    Done { row, out, record }
+}
+
+// A write or a read.
+pub fn enabled(
+    kind: u32,
+    r: [u32; 6],
+    nodes: &mut [u32],
+    list: &mut [u32],
+    enable: &[u32],
+    address: &[u32],
+    data: &mut [u32],
+) -> Done {
+    let mut record = r;
+    let mut out: u32 = 7;
+    let row = if kind == 1 {
+        capi::md_write(&mut record, nodes, list, enable, address, data, &mut out)
+    } else {
+        capi::md_read(&mut record, nodes, list, enable, address, data)
+    };
+    Done { row, out, record }
+}
+
+// An assert or a check.
+pub fn conditional(
+    kind: u32,
+    r: [u32; 6],
+    nodes: &mut [u32],
+    list: &mut [u32],
+    b: u32,
+    address: &[u32],
+    data: &[u32],
+) -> Done {
+    let mut record = r;
+    let mut out: u32 = 7;
+    let row = if kind == 3 {
+        capi::md_assert(&mut record, nodes, list, b, address, data, &mut out)
+    } else {
+        capi::md_check(&mut record, nodes, list, b, address, data)
+    };
+    Done { row, out, record }
+}
