@@ -6,6 +6,7 @@ pub mod AgainLaws
 pub mod TableLaws
 pub mod ContractLaws
 pub mod AnyLaws
+pub mod LongerLaws
 pub mod FullLaws
 pub mod UserLaws
 pub mod OrderLaws

@@ -2,7 +2,7 @@
 -- `From u w n`: node n is on a variable from u up;
 -- `Stands u m w s n`: node n is below the count, on a variable from u up, and stands for m unless the store is full;
 -- `Builds w s P x`: the step from w and s to x leaves standard form, extends the store, leaves a full store as it is, and P holds of its answer;
--- `Fills m`: the program m leaves a store within its capacity, and makes it full there alone.
+-- `Fills m`: the program m leaves a store within its capacity, and makes it full there alone; in longer words it does the same up to there.
 
 -- the store grows: older nodes stay
 pub use Rattle.nodes.proofs.ExtendsLaws.{extends-refl, extends-trans, agree-var}
@@ -23,6 +23,7 @@ pub use Rattle.diagrams.proofs.AssignmentLaws.{change-same, change-other, some-
 pub use Rattle.diagrams.proofs.ValueLaws.{value-0, value-1}
 -- a store becomes full at its capacity alone
 pub use Rattle.conditions.proofs.FullLaws.{standard-within, pure-fills, next-fills, each-fills, variable-fills, ite-fills, any-fills}
+pub use Rattle.conditions.proofs.LongerLaws.{value-longer}
 -- row 5
 pub use Rattle.conditions.proofs.UserLaws.{user-is, is-user, user-stands, stands-user, stands-turns}
 -- the table to begin with

@@ -1,8 +1,10 @@
 -- The terms in which the laws of building speak: what a node stands for, and what a step keeps.
 use mathlib.Core.Path.{_≡_}
 use mathlib.Core.Bool.{Bool, true, false}
-use mathlib.Core.List.{List}
+use mathlib.Core.Logic.{_⊎_}
+use mathlib.Core.List.{List, _++_}
 use Prim.Native.Nat.{ℕ, _<_, _≤_}
+use lib.ListN.{length, replicate}
 use Rattle.nodes.specs.Words.{varAt, capacityOf}
 use Rattle.nodes.specs.Standard.{Standard}
 use Rattle.nodes.specs.Extends.{Extends}
@@ -37,6 +39,22 @@ pub record Within (c : ℕ) (w : List ℕ) (s : Store) : Type 0 where
   pub most : s .count ≤ c
   pub at-capacity : s .full ≡ true → s .count ≡ c
 
--- a program that leaves a store so: it becomes full at capacity alone
+-- words with k more lent after them, all 0
+abbrev pub longer : ℕ → List ℕ → List ℕ
+longer k w = w ++ replicate k 0
+
+abbrev pub lengthened : {A : Type 0} → ℕ → Outcome A → Outcome A
+lengthened k x = record { words = longer k (x .words); store = x .store; answer = x .answer }
+
+-- x is left in words w, y in longer ones: the same, where x is not full; and where it is, y is full too or has nodes past the capacity of w
+pub record Alongside {A : Type 0} (k : ℕ) (w : List ℕ) (x y : Outcome A) : Type 0 where
+  pub fits : x .store .full ≡ false → y ≡ lengthened k x
+  pub past : x .store .full ≡ true → (y .store .full ≡ true) ⊎ (capacityOf w < y .store .count)
+
+-- a program that leaves a store so: it becomes full at capacity alone, and in longer words it does the same up to there
 pub record Fills {A : Type 0} (m : Build A) : Type 0 where
   pub within : (c : ℕ) (w : List ℕ) (s : Store) → Within c w s → Within c (m w s .words) (m w s .store)
+  pub long : (w : List ℕ) (s : Store) → length (m w s .words) ≡ length w
+  pub grows : (w : List ℕ) (s : Store) → s .count ≤ m w s .store .count
+  pub stuck : (w : List ℕ) (s : Store) → s .full ≡ true → m w s .store .full ≡ true
+  pub alongside : (k : ℕ) (w : List ℕ) (s : Store) → Alongside k w (m w s) (m (longer k w) s)

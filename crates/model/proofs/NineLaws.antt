@@ -1,23 +1,26 @@
--- 9 is met at capacity: every access is a program that makes the store full there alone.
-use mathlib.Core.Path.{_≡_, refl}
-use mathlib.Core.Bool.{Bool, true, false, cond, _&&_, false≢true}
+-- 9 is met at capacity, and just where a call would leave more nodes than that: every access is a program that makes the store full there alone, and in longer words does the same up to there.
+use mathlib.Core.Path.{_≡_, refl, sym, ap, subst, _∙_}
+use mathlib.Core.Bool.{Bool, true, false, cond, _&&_, false≢true, true≢false}
+use mathlib.Core.Logic.{_⊎_, inl, inr}
 use mathlib.Core.List.{List}
-use Prim.Native.Nat.{ℕ, zero, suc, _*_}
+use Prim.Native.Nat.{ℕ, zero, suc, _*_, _/_, _<_, _≤_, min}
 use native.Mathlib.Omega.{arith}
 use lib.Dec.{eqb}
 use lib.ListN.{getD}
 use Rattle.nodes.proofs.BoolLaws.{split}
 use Rattle.conditions.specs.Stores.{Standard, capacityOf}
 use Rattle.conditions.specs.declared.Store.{Store}
+use Rattle.conditions.specs.Assignment.{bitAt}
 use Rattle.conditions.specs.Build.{Outcome, Build}
-use Rattle.conditions.specs.Meaning.{Within, Fills}
-use Rattle.conditions.proofs.Promises.{standard-within, pure-fills, next-fills, each-fills, variable-fills, ite-fills, any-fills}
+use Rattle.conditions.specs.Meaning.{Within, longer, Fills}
+use Rattle.conditions.proofs.Promises.{standard-within, pure-fills, next-fills, each-fills, variable-fills, ite-fills, any-fills, value-longer}
 use Rattle.model.specs.Record.{Record, hAt, lAt, entryAt, addressOf, dataOf}
-use Rattle.model.specs.Access.{uniqueBit, Unique, Certain, Write, narrowBit, Narrow, halfStep, EachHalf, mergeHalf, entryStep, settleHalf, Look, Read, insideHalf, Inside, Check, Assert}
+use Rattle.model.specs.Access.{uniqueBit, Unique, Certain, Write, narrowBit, Narrow, halfStep, EachHalf, mergeHalf, entryStep, settleHalf, Look, Read, insideHalf, Inside, Check, Asserted, Assert}
 use Rattle.model.specs.Rows.{row8}
-use Rattle.model.specs.Step.{State, write, read, assert, check, evaluate, variable, ite, Call, access, nodeCall, Given, refused, refusal, Finish, full, short, gives, closed, unlessFull, begin, assertFirst, enter, finishAccess, finishNode, finish, turnedDownBy, step}
+use Rattle.model.specs.Step.{State, write, read, assert, check, evaluate, variable, ite, Call, access, nodeCall, Given, valued, kept, entered, Answer, isRefused, refused, refusal, Finish, full, short, gives, closed, unlessFull, begin, grown, withEntry, withCheckCondition, assertFirst, enter, finishAccess, finishNode, finish, turnedDownBy, step}
 use Rattle.model.specs.Frames.{lateRow, NineAtCapacity}
-use Rattle.model.proofs.FactLaws.{call-standard}
+use Rattle.model.specs.Table.{AllHold, facts, withMore, InMore, NineExactly}
+use Rattle.model.proofs.FactLaws.{call-standard, call-told}
 use Rattle.model.proofs.FrameLaws.{plain, rows-plain}
 use Rattle.model.proofs.StayLaws.{nine-full}
 
@@ -91,42 +94,41 @@ module _ (s : State) (S : Standard (s .words) (s .rec .count)) where
   from : {A : Type 0} {m : Build A} → Fills m → Within capacity (m (s .words) (begin (s .rec)) .words) (m (s .words) (begin (s .rec)) .store)
   from F = F .within capacity (s .words) (begin (s .rec)) (standard-within S)
 
-  -- what a call comes to is full at capacity alone
+  -- what a call comes to is full at capacity alone, and leaves no more nodes than that
   abbrev Met : Finish → Type 0
   Met (full t) = t .count ≡ capacity
   Met short = Unit {0}
-  Met (gives g t) = Unit {0}
+  Met (gives g t) = t .rec .count ≤ capacity
 
-  full-met : {A : Type 0} (x : Outcome A) (k : A → List ℕ → ℕ → Finish) → (x .store .full ≡ true → x .store .count ≡ capacity) → (x .store .full ≡ false → Met (k (x .answer) (x .words) (x .store .count))) → Met (unlessFull x k)
+  full-met : {A : Type 0} (x : Outcome A) (q : A → List ℕ → ℕ → Finish) → Within capacity (x .words) (x .store) → (x .store .full ≡ false → Met (q (x .answer) (x .words) (x .store .count))) → Met (unlessFull x q)
   unfolding unlessFull
-  full-met x k h g = go (x .store .full) refl
+  full-met x q W g = go (x .store .full) refl
     where
-      go : (f : Bool) → x .store .full ≡ f → Met (cond f (full (x .store)) (k (x .answer) (x .words) (x .store .count)))
-      go true e = h e
+      go : (f : Bool) → x .store .full ≡ f → Met (cond f (full (x .store)) (q (x .answer) (x .words) (x .store .count)))
+      go true e = W .at-capacity e
       go false e = g e
 
   -- a program alone
-  alone-met : {A : Type 0} {m : Build A} → Fills m → (g : A → Given) (t : A → List ℕ → ℕ → State) → Met (unlessFull (m (s .words) (begin (s .rec))) (λ a w c. gives (g a) (t a w c)))
-  alone-met F g t = full-met _ _ (from F .at-capacity) (λ e. tt)
+  alone-met : {A : Type 0} {m : Build A} (F : Fills m) (g : A → Given) (t : A → List ℕ → ℕ → State) → ((a : A) (w : List ℕ) (c : ℕ) → t a w c .rec .count ≡ c) → Met (unlessFull (m (s .words) (begin (s .rec))) (λ a w c. gives (g a) (t a w c)))
+  alone-met F g t h = full-met _ _ (from F) (λ e. rw (h _ _ _) (from F .most))
 
   finish-met : (c : Call) → Met (finish c s)
   unfolding finishAccess finishNode enter
-  finish-met (access (write c a d)) = alone-met (write-fills (s .rec .n) (getD c 0 0) (getD c 1 0) a) _ _
-  finish-met (access (read e a out)) = alone-met (read-fills (s .rec) (s .list) (getD e 0 0) (getD e 1 0) a) _ _
-  finish-met (access (check b a d)) = alone-met (check-fills (s .rec) (s .list) b a d) _ _
+  finish-met (access (write c a d)) = alone-met (write-fills (s .rec .n) (getD c 0 0) (getD c 1 0) a) _ _ (λ a w c. refl)
+  finish-met (access (read e a out)) = alone-met (read-fills (s .rec) (s .list) (getD e 0 0) (getD e 1 0) a) _ _ (λ a w c. refl)
+  finish-met (access (check b a d)) = alone-met (check-fills (s .rec) (s .list) b a d) _ _ (λ a w c. refl)
   finish-met (access (assert b a d)) =
       let x = assertFirst b a d s in
       let X = from (assert-fills (s .rec) (s .list) b a d) in
-      full-met x _ (X .at-capacity)
-      (λ f. split (eqb (x .answer .keep) 1) (λ t. rw t tt)
+      let Y = write-fills (s .rec .n) b (x .answer .unless) a .within capacity (x .words) (record { count = x .store .count; full = false }) (record { capacity = X .capacity; most = X .most; at-capacity = λ e. absurd (false≢true e) }) in
+      full-met x _ X
+      (λ f. split (eqb (x .answer .keep) 1) (λ t. rw t (X .most))
       (λ t. split (row8 (s .rec) (s .words) (s .list))
-      (λ r. rw (t, r)
-      (full-met (Write (s .rec .n) b (x .answer .unless) a (x .words) (record { count = x .store .count; full = false })) _
-      (write-fills (s .rec .n) b (x .answer .unless) a .within capacity (x .words) (record { count = x .store .count; full = false }) (record { capacity = X .capacity; most = X .most; at-capacity = λ e. absurd (false≢true e) }) .at-capacity) (λ e. tt)))
+      (λ r. rw (t, r) (full-met (Write (s .rec .n) b (x .answer .unless) a (x .words) (record { count = x .store .count; full = false })) _ Y (λ e. Y .most)))
       (λ r. rw (t, r) tt)))
-  finish-met (nodeCall (evaluate f a)) = tt
-  finish-met (nodeCall (variable v)) = alone-met (variable-fills v) _ _
-  finish-met (nodeCall (ite f g h)) = alone-met (ite-fills f g h) _ _
+  finish-met (nodeCall (evaluate f a)) = standard-within S .most
+  finish-met (nodeCall (variable v)) = alone-met (variable-fills v) _ _ (λ a w c. refl)
+  finish-met (nodeCall (ite f g h)) = alone-met (ite-fills f g h) _ _ (λ a w c. refl)
 
   at-nine : (x : Finish) → Met x → lateRow x ≡ 9 → (t : Store) × (x ≡ full t) × (t .count ≡ capacity)
   at-nine (full t) m e = (t, refl, m)
@@ -143,3 +145,132 @@ nine-at-capacity c s = go (refusal c s) refl
         let z : suc k ≡ 9 = cc in
         let p : plain c 9 ≡ true = rw z at (rows-plain c s k r) in
         absurd (false≢true p)
+
+-- the same call with k more node words lent
+module _ (k : ℕ) (s : State) where
+  abbrev more : State
+  more = withMore k s
+
+  -- what it comes to there, where it is full with the words of s alone: nothing that is given, or more nodes than their capacity
+  abbrev Past : Finish → Type 0
+  Past (full t) = Unit {0}
+  Past short = Unit {0}
+  Past (gives g t) = capacityOf (s .words) < t .rec .count
+
+  -- what it comes to with the words of s alone, and there
+  abbrev Beside : Finish → Finish → Type 0
+  Beside (full t) y = Past y
+  Beside short y = y ≡ short
+  Beside (gives g t) y = y ≡ gives g (withMore k t)
+
+  module _ {A : Type 0} {m : Build A} (F : Fills m) (w : List ℕ) (b : Store) (same : capacityOf w ≡ capacityOf (s .words)) (p q : A → List ℕ → ℕ → Finish) where
+    past-beside : ((a : A) (w : List ℕ) (c : ℕ) → capacityOf (s .words) < c → Past (q a w c)) → (m w b .store .full ≡ true) → Past (unlessFull (m (longer k w) b) q)
+    unfolding unlessFull
+    past-beside late f = go (m (longer k w) b .store .full) refl
+      where
+        y : Outcome A
+        y = m (longer k w) b
+
+        on : y .store .full ≡ false → (y .store .full ≡ true) ⊎ (capacityOf w < y .store .count) → Past (q (y .answer) (y .words) (y .store .count))
+        on e (inl g) = absurd (true≢false (sym g ∙ e))
+        on e (inr h) = late _ _ _ (omega (arith, h, same))
+
+        go : (g : Bool) → y .store .full ≡ g → Past (cond g (full (y .store)) (q (y .answer) (y .words) (y .store .count)))
+        go true e = tt
+        go false e = on e (F .alongside k w b .past f)
+
+    program-beside : ((a : A) (w : List ℕ) (c : ℕ) → capacityOf (s .words) < c → Past (q a w c))
+        → (m w b .store .full ≡ false → Beside (p (m w b .answer) (m w b .words) (m w b .store .count)) (q (m w b .answer) (longer k (m w b .words)) (m w b .store .count)))
+        → Beside (unlessFull (m w b) p) (unlessFull (m (longer k w) b) q)
+    unfolding unlessFull
+    program-beside late on = go (m w b .store .full) refl
+      where
+        x : Outcome A
+        x = m w b
+
+        go : (f : Bool) → x .store .full ≡ f → Beside (unlessFull x p) (unlessFull (m (longer k w) b) q)
+        go true e = rw e (past-beside late e)
+        go false e = rw (F .alongside k w b .fits e, e) (on e)
+
+  past-gives : {A : Type 0} (y : Outcome A) (g : A → Given) (q : A → List ℕ → ℕ → State) → ((a : A) (w : List ℕ) (c : ℕ) → q a w c .rec .count ≡ c) → capacityOf (s .words) < y .store .count → Past (unlessFull y (λ a w c. gives (g a) (q a w c)))
+  unfolding unlessFull
+  past-gives y g q h l = split (y .store .full) (λ f. rw f tt) (λ f. rw (f, h (y .answer) (y .words) (y .store .count)) l)
+
+  -- a program alone, after which a call leaves t of the state, the answer and what was built
+  alone-beside : {A : Type 0} {m : Build A} → Fills m → (g : A → Given) (t : State → A → List ℕ → ℕ → State) → ((a : A) (w : List ℕ) (c : ℕ) → t more a (longer k w) c ≡ withMore k (t s a w c)) → ((a : A) (w : List ℕ) (c : ℕ) → t more a w c .rec .count ≡ c)
+      → Beside (unlessFull (m (s .words) (begin (s .rec))) (λ a w c. gives (g a) (t s a w c))) (unlessFull (m (longer k (s .words)) (begin (s .rec))) (λ a w c. gives (g a) (t more a w c)))
+  alone-beside {m = m} F g t e h =
+      let x = m (s .words) (begin (s .rec)) in
+      program-beside F (s .words) (begin (s .rec)) refl _ _ (λ a w c l. rw (h a w c) l) (λ f. ap (λ (t : State). gives (g (x .answer)) t) (e (x .answer) (x .words) (x .store .count)))
+
+  assert-beside : (b : ℕ) (a d : List ℕ) → Beside (finish (access (assert b a d)) s) (finish (access (assert b a d)) more)
+  unfolding finishAccess enter
+  assert-beside b a d =
+      program-beside F (s .words) (begin (s .rec)) refl _ _ late on
+    where
+      F : Fills (Assert (s .rec) (s .list) b a d)
+      F = assert-fills (s .rec) (s .list) b a d
+
+      x : Outcome Asserted
+      x = assertFirst b a d s
+
+      W : (q : Asserted) → Fills (Write (s .rec .n) b (q .unless) a)
+      W q = write-fills (s .rec .n) b (q .unless) a
+
+      late : (q : Asserted) (w : List ℕ) (c : ℕ) → capacityOf (s .words) < c → Past (enter more b a d q w c)
+      late q w c l =
+          split (eqb (q .keep) 1) (λ t. rw t l)
+          (λ t. split (row8 (s .rec) (s .words) (s .list))
+          (λ r. rw (t, r) (past-gives (Write (s .rec .n) b (q .unless) a w (record { count = c; full = false })) _ _ (λ a w c. refl) (omega (arith, l, W q .grows w (record { count = c; full = false })))))
+          (λ r. rw (t, r) tt))
+
+      on : x .store .full ≡ false → Beside (enter s b a d (x .answer) (x .words) (x .store .count)) (enter more b a d (x .answer) (longer k (x .words)) (x .store .count))
+      on f =
+          split (eqb (x .answer .keep) 1) (λ t. rw t refl)
+          (λ t. split (row8 (s .rec) (s .words) (s .list))
+          (λ r. rw (t, r) (program-beside (W (x .answer)) (x .words) (record { count = x .store .count; full = false }) (ap (λ n. min (n / 3) 16384) (F .long (s .words) (begin (s .rec)))) _ _ (λ a w c l. l) (λ e. refl)))
+          (λ r. rw (t, r) refl))
+
+  finish-beside : (c : Call) → Beside (finish c s) (finish c more)
+  unfolding finishAccess finishNode
+  finish-beside (access (write c a d)) = alone-beside (write-fills (s .rec .n) (getD c 0 0) (getD c 1 0) a) _ (λ s m w c. withEntry (grown s w c) m a d) (λ a w c. refl) (λ a w c. refl)
+  finish-beside (access (read e a out)) = alone-beside (read-fills (s .rec) (s .list) (getD e 0 0) (getD e 1 0) a) _ (λ s r w c. grown s w c) (λ a w c. refl) (λ a w c. refl)
+  finish-beside (access (check b a d)) = alone-beside (check-fills (s .rec) (s .list) b a d) _ (λ s v w c. withCheckCondition (grown s w c) v) (λ a w c. refl) (λ a w c. refl)
+  finish-beside (access (assert b a d)) = assert-beside b a d
+  finish-beside (nodeCall (evaluate f a)) = ap (λ (v : Bool). gives (valued v) more) (value-longer k (s .words) (bitAt a) f)
+  finish-beside (nodeCall (variable v)) = alone-beside (variable-fills v) _ (λ s n w c. grown s w c) (λ a w c. refl) (λ a w c. refl)
+  finish-beside (nodeCall (ite f g h)) = alone-beside (ite-fills f g h) _ (λ s n w c. grown s w c) (λ a w c. refl) (λ a w c. refl)
+
+  -- what it answers and leaves, here and there
+  record ClosedBeside (x y : Finish) : Type 0 where
+    fits : closed more y .after .rec .count ≤ capacityOf (s .words) → closed more y ≡ record { answer = closed s x .answer; after = withMore k (closed s x .after) }
+    nine : capacityOf (s .words) < closed more y .after .rec .count → closed s x .answer ≡ refused 9
+
+  past-given : (y : Finish) → Past y → isRefused (closed more y .answer) ≡ false → capacityOf (s .words) < closed more y .after .rec .count
+  unfolding closed
+  past-given (full t) h a = absurd (true≢false a)
+  past-given short h a = absurd (true≢false a)
+  past-given (gives g t) h a = h
+
+  module _ (S : Standard (s .words) (s .rec .count)) where
+    closed-beside : (x y : Finish) → Met s S x → Beside x y → isRefused (closed more y .answer) ≡ false → ClosedBeside x y
+    unfolding closed
+    closed-beside (full t) y m h a = let l = past-given y h a in record { fits = λ f. absurd (omega (arith, l, f)); nine = λ f. refl }
+    closed-beside short y m h a = absurd (true≢false (subst (λ (z : Finish). isRefused (closed more z .answer) ≡ false) h a))
+    closed-beside (gives g t) y m h a = subst (ClosedBeside (gives g t)) (sym h) (record { fits = λ f. refl; nine = λ f. absurd (omega (arith, m, f)) })
+
+pub nine-exactly : NineExactly
+unfolding NineExactly step
+nine-exactly c s k A = go (refusal c (withMore k s)) refl
+  where
+    z : refusal c s ≡ 0
+    z = call-told c s .all A
+
+    S : Standard (s .words) (s .rec .count)
+    S = call-standard c s z
+
+    go : (r : ℕ) → refusal c (withMore k s) ≡ r → isRefused (step c (withMore k s) .answer) ≡ false → InMore c s k
+    go zero r a =
+        let B = closed-beside k s S (finish c s) (finish c (withMore k s)) (finish-met s S c) (finish-beside k s c) (rw r at a) in
+        record { fits = rw (r, z) (B .fits); nine = rw (r, z) (B .nine) }
+    go (suc j) r a = absurd (true≢false (rw r at a))
