@@ -23,11 +23,10 @@ use Rattle.model.specs.Claims.{pairs}
 use Rattle.model.specs.Frames.{clears, wordsAfter, RefusalLeaves, RefusalNumber, Extended, SuccessLeaves, Valid, StaysValid, NoRow123, FreshValid, FreshNoRow123, writeOrAssert, acceptedWrites, CountAtMost}
 use Rattle.model.proofs.MeansLaws.{Means, user-means}
 use Rattle.model.proofs.AccessLaws.{write-means}
-use Rattle.model.proofs.ThirdLaws.{User, is-third}
 use Rattle.model.proofs.FactLaws.{row1-tells, names, users-tell, space-room, write-facts, read-facts, check-facts, assert-facts, variable-facts, ite-facts, fresh-told}
 use Rattle.model.proofs.RowLaws.{length-pairs, names-halves}
 use Rattle.model.proofs.ProgramLaws.{read-program, check-program, assert-program}
-use Rattle.model.proofs.ValidLaws.{user-stays, user-grows, withConditions, users-stay, conditions-valid, conditions-extended, entry-extended, entry-valid}
+use Rattle.model.proofs.ValidLaws.{User, user-stays, user-grows, withConditions, users-stay, conditions-valid, conditions-extended, entry-extended, no-entries, entry-valid}
 
 -- p holds of the number of each row that refuses
 abbrev among : (ℕ → Bool) → List Row → Bool
@@ -231,7 +230,7 @@ unfolding row1
 fresh-state-valid n w ws list one room =
     let S = terminals-standard ws room in
     let u = is-user (withTerminals ws) 2 1 (omega arith) (from-1 8 S (omega arith)) in
-    record { one = one; two = is-standard (withTerminals ws) 2 S; three = is-third (freshState n w ws list) (record { fits = omega arith; words = λ k h. absurd (omega arith); asserted = u; checked = u }) }
+    record { one = one; two = is-standard (withTerminals ws) 2 S; three = no-entries (freshRecord n w) (withTerminals ws) list refl u u }
 
 pub fresh-valid : FreshValid
 unfolding FreshValid fresh

@@ -22,7 +22,7 @@ use Rattle.model.specs.Step.{State}
 use Rattle.model.specs.Claims.{Begins}
 use Rattle.model.specs.Frames.{Valid}
 use Rattle.model.proofs.FactLaws.{rows-hold}
-use Rattle.model.proofs.ThirdLaws.{is-third}
+use Rattle.model.proofs.ValidLaws.{no-entries}
 use Rattle.reading.specs.declared.Loaded.{Loaded}
 use Rattle.reading.specs.declared.Loaded.the-variants.{Ready}
 use Rattle.reading.specs.Bytes.{numberAt}
@@ -235,5 +235,5 @@ module _ {file words ws : List ℕ} {n w count accesses at : ℕ} (R : SectionsR
       record {
         one = R .range;
         two = is-standard ws count S;
-        three = is-third firstState (record { fits = omega arith; words = λ k h. absurd (omega arith); asserted = u; checked = u });
+        three = no-entries (firstRecord n w count) ws list refl u u;
       }
