@@ -37,7 +37,7 @@ fn assert_row(
     if k != 0 {
         return k;
     }
-    if rows::apart(words, r.count, b, address, r.n as usize) {
+    if rows::none_unknown(words, r.count, b, address, r.n as usize) {
         0
     } else {
         7

@@ -18,8 +18,8 @@ use access::ControlNode;
 use access::Marks;
 pub use append::copy;
 use conditions::Store;
-pub use slices::apart;
 pub use slices::legal_pairs;
+pub use slices::none_unknown;
 pub use slices::users_up_to;
 
 // A record's fields: n address bits and w data bits, the counts of nodes and entries, and the two conditions.
@@ -100,7 +100,7 @@ impl Fields {
     }
 
     // Row 3.
-    fn is_listed(self, words: &[u32], list: &[u32]) -> bool
+    fn has_valid_list(self, words: &[u32], list: &[u32]) -> bool
         requires { ⌜ (self .n ≤ 8) × (self .w ≤ 16) × Standard (now words) (self .count) ⌝ }
         ensures { λ r. ⌜ r ≡ row3 (recordOf self) (now (words .entry)) (now (list .entry)) ⌝ }
     {
@@ -122,7 +122,11 @@ impl Fields {
         if k != 0 {
             return k;
         }
-        if self.is_listed(words, list) { 0 } else { 3 }
+        if self.has_valid_list(words, list) {
+            0
+        } else {
+            3
+        }
     }
 
     // The row, 5 or 6, that refuses the arguments of an access, or 0: words of control with k pairs, an address, and data of m pairs.
