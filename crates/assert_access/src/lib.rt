@@ -77,7 +77,7 @@ fn enter(
     }
     let c = ControlPair {
         h: b,
-        l: ControlNode(q.unless),
+        l: ControlNode(q.not_b),
     };
     let n = r.n as usize;
     let m = access::write_marks(words, table, q.store, n, c, address);

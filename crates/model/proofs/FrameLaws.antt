@@ -174,7 +174,7 @@ finish-leaves (access (assert b a d)) s e =
     (λ f. split (eqb (x .answer .keep) 1)
     (λ t. rw t (conditions-leave c s kept (x .words) n (X .extends) (X .standard) v (r .checked) (λ u. means-user (X .post .condition)) (user-grows (X .extends) (r .checked))))
     (λ t. split (row8 r (s .words) (s .list))
-    (λ room. rw (t, room) (entry-leaves c s entered (x .words) n (X .extends) (X .standard) refl v (λ u. means-user (X .post .condition)) b (x .answer .unless) (user-grows (X .extends) b (names r (s .words) b .so (K .control))) (means-user (X .post .unless))
+    (λ room. rw (t, room) (entry-leaves c s entered (x .words) n (X .extends) (X .standard) refl v (λ u. means-user (X .post .condition)) b (x .answer .notB) (user-grows (X .extends) b (names r (s .words) b .so (K .control))) (means-user (X .post .notB))
     a d (K .address .long) (K .word .long) (users-tell r (s .words) a (2 * r .n) (K .address .long) .so (K .address .names)) (users-tell r (s .words) d (2 * r .w) (K .word .long) .so (K .word .names)) (omega (arith, leb-true (r .entries + 1) (listCapacity r (s .list)) room))))
     (λ room. rw (t, room) (short-leaves b a d s))))
 finish-leaves (access (check b a d)) s e =

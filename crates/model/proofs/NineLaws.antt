@@ -121,8 +121,8 @@ module _ (s : State) (S : Standard (s .words) (s .rec .count)) where
       (λ f. split (eqb (x .answer .keep) 1) (λ t. rw t tt)
       (λ t. split (row8 (s .rec) (s .words) (s .list))
       (λ r. rw (t, r)
-      (full-met (Write (s .rec .n) b (x .answer .unless) a (x .words) (record { count = x .store .count; full = false })) _
-      (write-fills (s .rec .n) b (x .answer .unless) a .within capacity (x .words) (record { count = x .store .count; full = false }) (record { capacity = X .capacity; most = X .most; at-capacity = λ e. absurd (false≢true e) }) .at-capacity) (λ e. tt)))
+      (full-met (Write (s .rec .n) b (x .answer .notB) a (x .words) (record { count = x .store .count; full = false })) _
+      (write-fills (s .rec .n) b (x .answer .notB) a .within capacity (x .words) (record { count = x .store .count; full = false }) (record { capacity = X .capacity; most = X .most; at-capacity = λ e. absurd (false≢true e) }) .at-capacity) (λ e. tt)))
       (λ r. rw (t, r) tt)))
   finish-met (nodeCall (evaluate f a)) = tt
   finish-met (nodeCall (variable v)) = alone-met (variable-fills v) _ _
