@@ -38,8 +38,8 @@ pub record AssertHolds (r : Fields) (w l : List ℕ) (b : ℕ) (a d : List ℕ) 
   pub control : b < r .count
   pub asserted : r .asserted < r .count
   pub clears : clearOf (built.Assert (recordOf r) l b a d w (begin (recordOf r)) .words) (r .count) ≡ clearOf w (r .count)
-  pub entry-clears : (x : Outcome built.Asserted) → x ≡ built.Assert (recordOf r) l b a d w (begin (recordOf r))
-      → clearOf (built.Write (r .n) b (x .answer .unless) a (x .words) (record { count = x .store .count; full = false }) .words) (r .count) ≡ clearOf w (r .count)
+  pub entry-clears : (x : Outcome built.AssertBuilt) → x ≡ built.Assert (recordOf r) l b a d w (begin (recordOf r))
+      → clearOf (built.Write (r .n) b (x .answer .notB) a (x .words) (record { count = x .store .count; full = false }) .words) (r .count) ≡ clearOf w (r .count)
 
 pub assert-holds : (r : Fields) (w l : List ℕ) (b : ℕ) (a d : List ℕ) {k : ℕ} → k ≡ firstRow (assertRows (recordOf r) w l b a d) → k ≡ 0 → AssertHolds r w l b a d
 assert-holds r w l b a d e z =
@@ -54,7 +54,7 @@ assert-holds r w l b a d e z =
       control = F .control .below;
       asserted = F .memory .listed .asserted .below;
       clears = builds-clear (assert-program σ s b a d F);
-      entry-clears = λ y q. ap (λ (y : Outcome built.Asserted). clearOf (built.Write (r .n) b (y .answer .unless) a (y .words) (record { count = y .store .count; full = false }) .words) (r .count)) q ∙ assert-entry-clears σ s b a d F;
+      entry-clears = λ y q. ap (λ (y : Outcome built.AssertBuilt). clearOf (built.Write (r .n) b (y .answer .notB) a (y .words) (record { count = y .store .count; full = false }) .words) (r .count)) q ∙ assert-entry-clears σ s b a d F;
     }
 
 -- the test of row 8, on the capacity as it was computed
@@ -71,7 +71,7 @@ closed-words r w w′ l e (full t) = rw e
 closed-words r w w′ l e short = rw e
 closed-words r w w′ l e (gives g t) = refl
 
-pub enter-words : (r : Fields) (w w′ l : List ℕ) (b : ℕ) (a d : List ℕ) (q : built.Asserted) (v : List ℕ) (c : ℕ) → clearOf w′ (r .count) ≡ clearOf w (r .count)
+pub enter-words : (r : Fields) (w w′ l : List ℕ) (b : ℕ) (a d : List ℕ) (q : built.AssertBuilt) (v : List ℕ) (c : ℕ) → clearOf w′ (r .count) ≡ clearOf w (r .count)
     → closed (stateOf r w l) (enter (stateOf r w l) b a d q v c) ≡ closed (stateOf r w′ l) (enter (stateOf r w′ l) b a d q v c)
 unfolding enter
 enter-words r w w′ l b a d q v c e = closed-words r w w′ l e (enter (stateOf r w l) b a d q v c)

@@ -26,11 +26,11 @@ pub record BeforeEntry (r : Fields) (w l table : List ℕ) (b : ℕ) (a d : List
   pub fits : q .store .full ≡ false
   pub more : r .count ≤ q .store .count
   pub control : b < r .count
-  pub unless : q .unless < q .store .count
+  pub notB : q .«not_b» < q .store .count
   pub pairs : length a ≡ 2 * r .n
   pub nodes : Nodes (r .count) a
   pub word : length d ≡ 2 * r .w
-  pub clears : clearOf (model.Write (r .n) b (q .unless) a w (record { count = q .store .count; full = false }) .words) (r .count) ≡ clearOf w (r .count)
+  pub clears : clearOf (model.Write (r .n) b (q .«not_b») a w (record { count = q .store .count; full = false }) .words) (r .count) ≡ clearOf w (r .count)
 
 -- kept, entered, or refused by 8 or 9
 pub record AfterEntry (r : Fields) (w l : List ℕ) (b : ℕ) (a d : List ℕ) (q : AssertBuilt) (r′ : Fields) (w′ l′ : List ℕ) (x : Answer) (table : List ℕ) : Type 0 where

@@ -37,7 +37,7 @@ fn assert_row(
     if k != 0 {
         return k;
     }
-    if rows::apart(words, r.count, b, address, r.n as usize) {
+    if rows::none_unknown(words, r.count, b, address, r.n as usize) {
         0
     } else {
         7
@@ -77,7 +77,7 @@ fn enter(
     }
     let c = ControlPair {
         h: b,
-        l: ControlNode(q.unless),
+        l: ControlNode(q.not_b),
     };
     let n = r.n as usize;
     let m = access::write_marks(words, table, q.store, n, c, address);

@@ -17,7 +17,7 @@ use rows::Fields;
 pub struct AssertBuilt {
     pub store: Store,
     pub condition: u32,
-    pub unless: u32,
+    pub not_b: u32,
     pub keep: u32,
 }
 
@@ -76,7 +76,7 @@ pub fn assert_builds(
     AssertBuilt {
         store,
         condition: p.node,
-        unless: v.node,
+        not_b: v.node,
         keep: k.node,
     }
 }

@@ -2,10 +2,10 @@
 use mathlib.Core.Path.{_≡_, ap, subst}
 use Prim.Native.Nat.{_<_}
 use Rattle.nodes.specs.Standard.{Standard}
-use Rattle.conditions.proofs.Promises.{standard-is, user-is}
+use Rattle.conditions.proofs.Promises.{standard-is}
 use Rattle.model.specs.Step.{State, Call, Answer, Result, step}
 use Rattle.model.specs.Frames.{Valid, StaysValid}
-use Rattle.model.proofs.ThirdLaws.{third-is}
+use Rattle.model.proofs.FactLaws.{row3-tells}
 use Rattle.model.proofs.FrameLaws.{stays-valid}
 
 -- the state after an access
@@ -19,7 +19,7 @@ module _ (c : Call) {s t : State} {a : Answer} (K : Valid s) (e : step c s ≡ r
   after-standard = standard-is (t .words) (t .rec .count) (after-valid c K e .two)
 
   pub asserted-below : Standard (t .words) (t .rec .count) × (t .rec .asserted < t .rec .count)
-  asserted-below = (after-standard, user-is (t .words) (t .rec .count) (t .rec .asserted) (third-is t (after-valid c K e .three) .asserted) .0)
+  asserted-below = (after-standard, row3-tells (t .rec) (t .words) (t .list) .is (after-valid c K e .three) .asserted .below)
 
   pub checked-below : Standard (t .words) (t .rec .count) × (t .rec .checked < t .rec .count)
-  checked-below = (after-standard, user-is (t .words) (t .rec .count) (t .rec .checked) (third-is t (after-valid c K e .three) .checked) .0)
+  checked-below = (after-standard, row3-tells (t .rec) (t .words) (t .list) .is (after-valid c K e .three) .checked .below)

@@ -51,8 +51,8 @@ pub fn do_write(
     ensures { λ r. ⌜ StepAs r (now (words .exit)) (now (list .exit)) (now (buf .exit)) (now (table .exit)) (done (callOf kinds.Write (c .memory .n) (c .memory .w) (now (ops .entry))) (stateOf (c .memory) (now (words .entry)) (now (list .entry))) (c .at) (out (now (buf .entry)) (c .text))) ⌝ }
 {
     let memory = c.memory;
-    let a = 2 + 2 * (memory.n as usize);
-    let d = a + 2 * (memory.w as usize);
+    let a = reading::address_end(2, memory.n);
+    let d = reading::data_end(2, memory.n, memory.w);
     let r = memory.write_on(words, list, table, &ops[0..2], &ops[2..a], &ops[a..d]);
     let after = r.after;
     let answer = r.answer;
@@ -78,8 +78,8 @@ pub fn do_assert(
     ensures { λ r. ⌜ StepAs r (now (words .exit)) (now (list .exit)) (now (buf .exit)) (now (table .exit)) (done (callOf kinds.Assert (c .memory .n) (c .memory .w) (now (ops .entry))) (stateOf (c .memory) (now (words .entry)) (now (list .entry))) (c .at) (out (now (buf .entry)) (c .text))) ⌝ }
 {
     let memory = c.memory;
-    let a = 1 + 2 * (memory.n as usize);
-    let d = a + 2 * (memory.w as usize);
+    let a = reading::address_end(1, memory.n);
+    let d = reading::data_end(1, memory.n, memory.w);
     let r = memory.assert_on(
         words,
         list,

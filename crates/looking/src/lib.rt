@@ -28,7 +28,7 @@ fn read_into(
     ensures { λ r. ⌜ StepAs r (now (words .exit)) (now (list .entry)) (now (buf .exit)) (now (table .exit)) (done (callOf kinds.Read (c .memory .n) (c .memory .w) (now (ops .entry))) (stateOf (c .memory) (now (words .entry)) (now (list .entry))) (c .at) (out (now (buf .entry)) (c .text))) ⌝ }
 {
     let memory = c.memory;
-    let a = 2 + 2 * (memory.n as usize);
+    let a = reading::address_end(2, memory.n);
     let r = memory.read_on(words, list, table, &ops[0..2], &ops[2..a], word);
     let after = r.after;
     let answer = r.answer;
@@ -72,8 +72,8 @@ pub fn do_check(
     ensures { λ r. ⌜ StepAs r (now (words .exit)) (now (list .entry)) (now (buf .exit)) (now (table .exit)) (done (callOf kinds.Check (c .memory .n) (c .memory .w) (now (ops .entry))) (stateOf (c .memory) (now (words .entry)) (now (list .entry))) (c .at) (out (now (buf .entry)) (c .text))) ⌝ }
 {
     let memory = c.memory;
-    let a = 1 + 2 * (memory.n as usize);
-    let d = a + 2 * (memory.w as usize);
+    let a = reading::address_end(1, memory.n);
+    let d = reading::data_end(1, memory.n, memory.w);
     let r = memory.check_on(
         words,
         list,

@@ -15,7 +15,7 @@ use Rattle.conditions.specs.Meaning.{Meaning, Builds}
 use Rattle.conditions.proofs.Promises.{pure-builds, next-builds, builds-weaker, each-builds}
 use Rattle.model.specs.Pairs.{Pair, X, admit, admits, known, unique, at}
 use Rattle.model.specs.Record.{Record, hAt, lAt, entryAt, addressOf, dataOf}
-use Rattle.model.specs.Access.{uniqueBit, Unique, Marks, Certain, Write, narrowBit, Narrow, halfStep, EachHalf, mergeHalf, entryStep, settleHalf, Look, maskHalf, Read, insideHalf, Inside, Check, Asserted, Assert}
+use Rattle.model.specs.Access.{uniqueBit, Unique, Marks, Certain, Write, narrowBit, Narrow, halfStep, EachHalf, mergeHalf, entryStep, settleHalf, Look, maskHalf, Read, insideHalf, Inside, Check, AssertBuilt, Assert}
 use Rattle.model.specs.Published.{Entry, certain, entry, union, look, answer, inside, assertHolds, checkHolds, keeps}
 use Rattle.model.proofs.MeansLaws.{Means, means-as, means-from, up, one-means, ite-means, not-means, and-means, or-means, variable-means, any-means, placed, place, length-place}
 use Rattle.model.proofs.HalfLaws.{halfOf, half-even, half-odd, half-same, half-X, half-over, half-mask, overIn, scanIn, scanIn-snoc, look-is, unique-more, admits-more, insideHalves, inside-halves}
@@ -291,9 +291,9 @@ module _ {σ : ℕ → Bool} where
       (λ Q. means-as (Q .0) (λ τ. inside-halves k f g))
 
 -- what the nodes of an assert mean
-pub record AssertedMean (σ : ℕ → Bool) (α β κ : Bool) (w : List ℕ) (s : Store) (q : Asserted) : Type 0 where
+pub record AssertBuiltMean (σ : ℕ → Bool) (α β κ : Bool) (w : List ℕ) (s : Store) (q : AssertBuilt) : Type 0 where
   pub condition : Means σ 8 (λ τ. α) w s (q .condition)
-  pub unless : Means σ 8 (λ τ. β) w s (q .unless)
+  pub notB : Means σ 8 (λ τ. β) w s (q .notB)
   pub keep : Means σ 8 (λ τ. κ) w s (q .keep)
 
 module _ {σ : ℕ → Bool} (r : Record) (l : List ℕ) (small : r .n ≤ 8) (es : List Entry) (b : ℕ) (β κ : Bool) (a d : List ℕ) (qs ds : List Pair) (len : length qs ≡ r .n) (w : List ℕ) (s : Store)
@@ -309,7 +309,7 @@ module _ {σ : ℕ → Bool} (r : Record) (l : List ℕ) (small : r .n ≤ 8) (e
       next-builds X1 _ (next-builds X2 _ (next-builds X3 _ (next-builds X4 _ X5)))
 
   pub assert-means : Means σ 8 (λ τ. κ) w s (r .asserted)
-      → Builds w s (AssertedMean σ (κ && assertHolds (r .n) (r .w) es β qs ds) (not β) (keeps (r .n) (r .w) es β qs ds)) (Assert r l b a d w s)
+      → Builds w s (AssertBuiltMean σ (κ && assertHolds (r .n) (r .w) es β qs ds) (not β) (keeps (r .n) (r .w) es β qs ds)) (Assert r l b a d w s)
   unfolding Assert
   assert-means K =
       let X1 = look-means r l small es a qs len w s S E A in
@@ -336,4 +336,4 @@ module _ {σ : ℕ → Bool} (r : Record) (l : List ℕ) (small : r .n ≤ 8) (e
       (next-builds X4 _
       (next-builds X5 _
       (next-builds X6 _
-      (next-builds X7 _ (next-builds X8 _ (pure-builds (X8 .standard) (record { condition = C8; unless = up S7 X8 V7; keep = X8 .post })))))))))
+      (next-builds X7 _ (next-builds X8 _ (pure-builds (X8 .standard) (record { condition = C8; notB = up S7 X8 V7; keep = X8 .post })))))))))

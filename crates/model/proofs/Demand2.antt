@@ -20,7 +20,7 @@ use Rattle.conditions.specs.Meaning.{Builds}
 use Rattle.conditions.proofs.Promises.{ite-builds, variable-builds, neither-decides, value-1, one-node}
 use Rattle.model.specs.Pairs.{Pair, admit}
 use Rattle.model.specs.Record.{Record}
-use Rattle.model.specs.Access.{Marks, Write, Asserted}
+use Rattle.model.specs.Access.{Marks, Write, AssertBuilt}
 use Rattle.model.specs.Rows.{row8}
 use Rattle.model.specs.Step.{State, write, read, assert, check, evaluate, variable, ite, Call, access, nodeCall, Given, place, filled, entered, kept, accepted, valued, node, done, isRefused, Result, refusal, Finish, full, short, gives, closed, unlessFull, begin, grown, withEntry, withAssertCondition, assertFirst, enter, finishAccess, finishNode, finish, turnedDownBy, step}
 use Rattle.model.specs.Published.{answer, assertHolds, checkHolds, keeps, control}
@@ -29,7 +29,7 @@ use Rattle.model.specs.Meanings.{entryValues, addressArgument, wordArgum
 use Rattle.model.specs.Table.{MemoryFacts}
 use Rattle.model.proofs.PairLaws.{T→eq, eq→T}
 use Rattle.model.proofs.MeansLaws.{Means, up, near-self}
-use Rattle.model.proofs.AccessLaws.{AssertedMean}
+use Rattle.model.proofs.AccessLaws.{AssertBuiltMean}
 use Rattle.model.proofs.FactLaws.{write-facts, read-facts, check-facts, assert-facts, variable-facts, ite-facts}
 use Rattle.model.proofs.StepLaws.{isKept, Holds, Follows, step-follows, free-store, pair-is, assert-builds, enter-builds}
 use Rattle.model.proofs.EntryLaws.{held, holds-values, holds-enters, holds-stays}
@@ -51,12 +51,12 @@ free s y k x e q = split (y .store .full) (λ t. absurd (true≢false (rw (e, t)
 
 -- such an assert
 module _ (s : State) (b : ℕ) (a d : List ℕ) (n : isRefused (step (access (assert b a d)) s .answer) ≡ false) where
-  abbrev x : Outcome Asserted
+  abbrev x : Outcome AssertBuilt
   x = assertFirst b a d s
 
   -- its Write, where it is entered
   abbrev y : Outcome Marks
-  y = Write (s .rec .n) b (x .answer .unless) a (x .words) (record { count = x .store .count; full = false })
+  y = Write (s .rec .n) b (x .answer .notB) a (x .words) (record { count = x .store .count; full = false })
 
   asserts : (x .store .full ≡ false) × (step (access (assert b a d)) s ≡ closed s (enter s b a d (x .answer) (x .words) (x .store .count)))
   unfolding finishAccess
@@ -143,7 +143,7 @@ module _ (a : ℕ) (small : a < 2 ^ 64) (s : State) where
     assert-follows : Follows φ s (held φ s) (access (assert b x d)) (step (access (assert b x d)) s)
     assert-follows = step-follows a small s (held φ s) assert-holds (access (assert b x d))
 
-    assert-means : Builds (s .words) (begin r) (AssertedMean φ condition (not (value (s .words) φ b)) keeping) (assertFirst b x d s)
+    assert-means : Builds (s .words) (begin r) (AssertBuiltMean φ condition (not (value (s .words) φ b)) keeping) (assertFirst b x d s)
     assert-means = assert-builds a small s (held φ s) assert-holds b x d no-row
 
     assert-condition : value (step (access (assert b x d)) s .after .words) φ (step (access (assert b x d)) s .after .rec .asserted) ≡ condition

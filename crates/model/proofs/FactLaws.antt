@@ -23,7 +23,6 @@ use Rattle.model.specs.Record.{Record, hAt, lAt, size, listCapacity}
 use Rattle.model.specs.Rows.{Row, firstRow, users, legalPairs, row1, row2, row3, spaceFor, writeRows, readRows, checkRows, assertRows, evaluateRows, variableRows, iteRows}
 use Rattle.model.specs.Step.{State, write, read, assert, check, evaluate, variable, ite, Call, access, nodeCall, refusal, freshRecord, freshRows}
 use Rattle.model.specs.Table.{Fact, InRange, Names, AllName, Listed, NoneNeither, NoneUnknown, Space, writeFacts, readFacts, checkFacts, assertFacts, evaluateFacts, variableFacts, iteFacts, facts, freshFacts, AllHold, FirstFails, Slice, MemoryFacts, WriteFacts, ReadFacts, CheckFacts, AssertFacts, NodeFacts}
-use Rattle.model.proofs.ThirdLaws.{third-is, is-third}
 
 -- no row has the number 0
 abbrev pub numbered : List Row → Bool
@@ -123,7 +122,7 @@ pub most : (a b : ℕ) → Tells (leb a b) (a ≤ b)
 most a b = record { is = leb-true a b; so = le-leb a b }
 
 -- "List capacity is whole entries, at most 4,096."
-fits-is : (r : Record) (l : List ℕ) (k : ℕ) → k ≤ listCapacity r l → (k * size r ≤ length l) × (k ≤ 4096)
+pub fits-is : (r : Record) (l : List ℕ) (k : ℕ) → k ≤ listCapacity r l → (k * size r ≤ length l) × (k ≤ 4096)
 unfolding listCapacity
 fits-is r l k h =
     let p : k ≤ length l / size r = omega arith in
@@ -159,16 +158,27 @@ module _ (r : Record) (w : List ℕ) where
   pub names : (n : ℕ) → Tells (isUser w (r .count) n) (Names r w n)
   names n = record { is = λ e. user-stands {s = store} e; so = λ N. stands-user {s = store} N }
 
+  abbrev wordUser : List ℕ → ℕ → Bool
+  wordUser l i = isUser w (r .count) (getD l i 0)
+
   pub row3-tells : (l : List ℕ) → Tells (row3 r w l) (Listed r w l)
+  unfolding row3
   row3-tells l =
-      let s : State = record { rec = r; words = w; list = l } in
       record {
         is = λ e.
-            let T = third-is s e in
-            let F = fits-is r l (r .entries) (T .fits) in
-            record { within = F .0; most = F .1; words = λ k h. names (getD l k 0) .is (T .words k h); asserted = names (r .asserted) .is (T .asserted); checked = names (r .checked) .is (T .checked) };
+            let p = and-both _ _ e in
+            let q = and-both _ _ (p .0) in
+            let t = and-both (leb (r .entries) (listCapacity r l)) _ (q .0) in
+            let F = fits-is r l (r .entries) (leb-true _ _ (t .0)) in
+            record {
+              within = F .0;
+              most = F .1;
+              words = λ k h. names (getD l k 0) .is (every-is (wordUser l) _ 0 (t .1) k (omega arith) (omega arith));
+              asserted = names (r .asserted) .is (q .1);
+              checked = names (r .checked) .is (p .1);
+            };
         so = λ L.
-            is-third s (record { fits = is-fits r l (r .entries) (L .within) (L .most); words = λ k h. names (getD l k 0) .so (L .words k h); asserted = names (r .asserted) .so (L .asserted); checked = names (r .checked) .so (L .checked) });
+            rw (le-leb _ _ (is-fits r l (r .entries) (L .within) (L .most)), is-every (wordUser l) (r .entries * size r) 0 (λ k a b. names (getD l k 0) .so (L .words k (omega arith))), names (r .asserted) .so (L .asserted), names (r .checked) .so (L .checked));
       }
 
   pub row8-tells : (k : ℕ) (l : List ℕ) → Tells (spaceFor r w k l) (Space r w k l)

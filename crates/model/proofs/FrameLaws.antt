@@ -23,11 +23,10 @@ use Rattle.model.specs.Claims.{pairs}
 use Rattle.model.specs.Frames.{clears, wordsAfter, RefusalLeaves, RefusalNumber, Extended, SuccessLeaves, Valid, StaysValid, NoRow123, FreshValid, FreshNoRow123, writeOrAssert, acceptedWrites, CountAtMost}
 use Rattle.model.proofs.MeansLaws.{Means, user-means}
 use Rattle.model.proofs.AccessLaws.{write-means}
-use Rattle.model.proofs.ThirdLaws.{User, is-third}
 use Rattle.model.proofs.FactLaws.{row1-tells, names, users-tell, space-room, write-facts, read-facts, check-facts, assert-facts, variable-facts, ite-facts, fresh-told}
 use Rattle.model.proofs.RowLaws.{length-pairs, names-halves}
 use Rattle.model.proofs.ProgramLaws.{read-program, check-program, assert-program}
-use Rattle.model.proofs.ValidLaws.{user-stays, user-grows, withConditions, users-stay, conditions-valid, conditions-extended, entry-extended, entry-valid}
+use Rattle.model.proofs.ValidLaws.{User, user-stays, user-grows, withConditions, users-stay, conditions-valid, conditions-extended, entry-extended, no-entries, entry-valid}
 
 -- p holds of the number of each row that refuses
 abbrev among : (ℕ → Bool) → List Row → Bool
@@ -175,7 +174,7 @@ finish-leaves (access (assert b a d)) s e =
     (λ f. split (eqb (x .answer .keep) 1)
     (λ t. rw t (conditions-leave c s kept (x .words) n (X .extends) (X .standard) v (r .checked) (λ u. means-user (X .post .condition)) (user-grows (X .extends) (r .checked))))
     (λ t. split (row8 r (s .words) (s .list))
-    (λ room. rw (t, room) (entry-leaves c s entered (x .words) n (X .extends) (X .standard) refl v (λ u. means-user (X .post .condition)) b (x .answer .unless) (user-grows (X .extends) b (names r (s .words) b .so (K .control))) (means-user (X .post .unless))
+    (λ room. rw (t, room) (entry-leaves c s entered (x .words) n (X .extends) (X .standard) refl v (λ u. means-user (X .post .condition)) b (x .answer .notB) (user-grows (X .extends) b (names r (s .words) b .so (K .control))) (means-user (X .post .notB))
     a d (K .address .long) (K .word .long) (users-tell r (s .words) a (2 * r .n) (K .address .long) .so (K .address .names)) (users-tell r (s .words) d (2 * r .w) (K .word .long) .so (K .word .names)) (omega (arith, leb-true (r .entries + 1) (listCapacity r (s .list)) room))))
     (λ room. rw (t, room) (short-leaves b a d s))))
 finish-leaves (access (check b a d)) s e =
@@ -231,7 +230,7 @@ unfolding row1
 fresh-state-valid n w ws list one room =
     let S = terminals-standard ws room in
     let u = is-user (withTerminals ws) 2 1 (omega arith) (from-1 8 S (omega arith)) in
-    record { one = one; two = is-standard (withTerminals ws) 2 S; three = is-third (freshState n w ws list) (record { fits = omega arith; words = λ k h. absurd (omega arith); asserted = u; checked = u }) }
+    record { one = one; two = is-standard (withTerminals ws) 2 S; three = no-entries (freshRecord n w) (withTerminals ws) list refl u u }
 
 pub fresh-valid : FreshValid
 unfolding FreshValid fresh

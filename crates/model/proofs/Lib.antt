@@ -6,7 +6,6 @@ pub mod KeptLaws
 pub mod HalfLaws
 pub mod AccessLaws
 pub mod ListLaws
-pub mod ThirdLaws
 pub mod FactLaws
 pub mod RowLaws
 pub mod StepLaws

@@ -15,7 +15,7 @@ use Rattle.conditions.specs.Build.{Outcome, Build}
 use Rattle.conditions.specs.Meaning.{Within, longer, Fills}
 use Rattle.conditions.proofs.Promises.{standard-within, pure-fills, next-fills, each-fills, variable-fills, ite-fills, any-fills, value-longer}
 use Rattle.model.specs.Record.{Record, hAt, lAt, entryAt, addressOf, dataOf}
-use Rattle.model.specs.Access.{uniqueBit, Unique, Certain, Write, narrowBit, Narrow, halfStep, EachHalf, mergeHalf, entryStep, settleHalf, Look, Read, insideHalf, Inside, Check, Asserted, Assert}
+use Rattle.model.specs.Access.{uniqueBit, Unique, Certain, Write, narrowBit, Narrow, halfStep, EachHalf, mergeHalf, entryStep, settleHalf, Look, Read, insideHalf, Inside, Check, AssertBuilt, Assert}
 use Rattle.model.specs.Rows.{row8}
 use Rattle.model.specs.Step.{State, write, read, assert, check, evaluate, variable, ite, Call, access, nodeCall, Given, valued, kept, entered, Answer, isRefused, refused, refusal, Finish, full, short, gives, closed, unlessFull, begin, grown, withEntry, withCheckCondition, assertFirst, enter, finishAccess, finishNode, finish, turnedDownBy, step}
 use Rattle.model.specs.Frames.{lateRow, NineAtCapacity}
@@ -120,11 +120,11 @@ module _ (s : State) (S : Standard (s .words) (s .rec .count)) where
   finish-met (access (assert b a d)) =
       let x = assertFirst b a d s in
       let X = from (assert-fills (s .rec) (s .list) b a d) in
-      let Y = write-fills (s .rec .n) b (x .answer .unless) a .within capacity (x .words) (record { count = x .store .count; full = false }) (record { capacity = X .capacity; most = X .most; at-capacity = λ e. absurd (false≢true e) }) in
+      let Y = write-fills (s .rec .n) b (x .answer .notB) a .within capacity (x .words) (record { count = x .store .count; full = false }) (record { capacity = X .capacity; most = X .most; at-capacity = λ e. absurd (false≢true e) }) in
       full-met x _ X
       (λ f. split (eqb (x .answer .keep) 1) (λ t. rw t (X .most))
       (λ t. split (row8 (s .rec) (s .words) (s .list))
-      (λ r. rw (t, r) (full-met (Write (s .rec .n) b (x .answer .unless) a (x .words) (record { count = x .store .count; full = false })) _ Y (λ e. Y .most)))
+      (λ r. rw (t, r) (full-met (Write (s .rec .n) b (x .answer .notB) a (x .words) (record { count = x .store .count; full = false })) _ Y (λ e. Y .most)))
       (λ r. rw (t, r) tt)))
   finish-met (nodeCall (evaluate f a)) = standard-within S .most
   finish-met (nodeCall (variable v)) = alone-met (variable-fills v) _ _ (λ a w c. refl)
@@ -211,17 +211,17 @@ module _ (k : ℕ) (s : State) where
       F : Fills (Assert (s .rec) (s .list) b a d)
       F = assert-fills (s .rec) (s .list) b a d
 
-      x : Outcome Asserted
+      x : Outcome AssertBuilt
       x = assertFirst b a d s
 
-      W : (q : Asserted) → Fills (Write (s .rec .n) b (q .unless) a)
-      W q = write-fills (s .rec .n) b (q .unless) a
+      W : (q : AssertBuilt) → Fills (Write (s .rec .n) b (q .notB) a)
+      W q = write-fills (s .rec .n) b (q .notB) a
 
-      late : (q : Asserted) (w : List ℕ) (c : ℕ) → capacityOf (s .words) < c → Past (enter more b a d q w c)
+      late : (q : AssertBuilt) (w : List ℕ) (c : ℕ) → capacityOf (s .words) < c → Past (enter more b a d q w c)
       late q w c l =
           split (eqb (q .keep) 1) (λ t. rw t l)
           (λ t. split (row8 (s .rec) (s .words) (s .list))
-          (λ r. rw (t, r) (past-gives (Write (s .rec .n) b (q .unless) a w (record { count = c; full = false })) _ _ (λ a w c. refl) (omega (arith, l, W q .grows w (record { count = c; full = false })))))
+          (λ r. rw (t, r) (past-gives (Write (s .rec .n) b (q .notB) a w (record { count = c; full = false })) _ _ (λ a w c. refl) (omega (arith, l, W q .grows w (record { count = c; full = false })))))
           (λ r. rw (t, r) tt))
 
       on : x .store .full ≡ false → Beside (enter s b a d (x .answer) (x .words) (x .store .count)) (enter more b a d (x .answer) (longer k (x .words)) (x .store .count))

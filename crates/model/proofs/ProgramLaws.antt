@@ -12,14 +12,14 @@ use Rattle.conditions.specs.Value.{value}
 use Rattle.conditions.specs.Meaning.{Builds}
 use Rattle.conditions.proofs.Promises.{builds-clear, extends-trans, is-user}
 use Rattle.model.specs.Record.{Record, withCount}
-use Rattle.model.specs.Access.{Marks, Write, Read, Asserted, Check}
+use Rattle.model.specs.Access.{Marks, Write, Read, AssertBuilt, Check}
 use Rattle.model.specs.Published.{entry, answer, assertHolds, checkHolds, keeps}
 use Rattle.model.specs.Step.{State, begin, assertFirst}
 use Rattle.model.specs.Claims.{pairAt, pairs}
 use Rattle.model.specs.Meanings.{entryValues}
 use Rattle.model.specs.Table.{WriteFacts, ReadFacts, CheckFacts}
 use Rattle.model.proofs.MeansLaws.{Means, user-means}
-use Rattle.model.proofs.AccessLaws.{MarksMean, write-means, Word, read-means, check-means, AssertedMean, assert-means}
+use Rattle.model.proofs.AccessLaws.{MarksMean, write-means, Word, read-means, check-means, AssertBuiltMean, assert-means}
 use Rattle.model.proofs.RowLaws.{length-pairs, name-means, names-halves}
 use Rattle.model.proofs.FactLaws.{names, users-tell}
 use Rattle.model.proofs.EntryLaws.{holds-values}
@@ -60,21 +60,21 @@ module _ (σ : ℕ → Bool) (s : State) where
         check-means r (s .list) (F .memory .range .n-most) (entryValues σ s) b (value w σ b) (value w σ (r .checked)) a d (pairs σ w a (r .n)) (pairs σ w d (r .w)) (length-pairs σ w a 0 (r .n)) w (begin r) S
         (holds-values σ s (F .memory) .entries) (name-means σ r w S (F .control)) (names-halves σ r w S a (r .n) (F .address .names)) (names-halves σ r w S d (r .w) (F .word .names)) (name-means σ r w S (F .memory .listed .checked))
 
-    pub assert-program : Builds w (begin r) (AssertedMean σ (value w σ (r .asserted) && assertHolds (r .n) (r .w) (entryValues σ s) (value w σ b) (pairs σ w a (r .n)) (pairs σ w d (r .w))) (not (value w σ b)) (keeps (r .n) (r .w) (entryValues σ s) (value w σ b) (pairs σ w a (r .n)) (pairs σ w d (r .w)))) (assertFirst b a d s)
+    pub assert-program : Builds w (begin r) (AssertBuiltMean σ (value w σ (r .asserted) && assertHolds (r .n) (r .w) (entryValues σ s) (value w σ b) (pairs σ w a (r .n)) (pairs σ w d (r .w))) (not (value w σ b)) (keeps (r .n) (r .w) (entryValues σ s) (value w σ b) (pairs σ w a (r .n)) (pairs σ w d (r .w)))) (assertFirst b a d s)
     assert-program =
         assert-means r (s .list) (F .memory .range .n-most) (entryValues σ s) b (value w σ b) (value w σ (r .asserted)) a d (pairs σ w a (r .n)) (pairs σ w d (r .w)) (length-pairs σ w a 0 (r .n)) w (begin r) S
         (holds-values σ s (F .memory) .entries) (name-means σ r w S (F .control)) (names-halves σ r w S a (r .n) (F .address .names)) (names-halves σ r w S d (r .w) (F .word .names)) (name-means σ r w S (F .memory .listed .asserted))
 
     -- the Write of an entry after it: whatever grew past the count is gone when it is cleared
-    pub assert-entry-clears : let x = assertFirst b a d s in clearOf (Write (r .n) b (x .answer .unless) a (x .words) (record { count = x .store .count; full = false }) .words) (r .count) ≡ clearOf w (r .count)
+    pub assert-entry-clears : let x = assertFirst b a d s in clearOf (Write (r .n) b (x .answer .notB) a (x .words) (record { count = x .store .count; full = false }) .words) (r .count) ≡ clearOf w (r .count)
     assert-entry-clears =
         let X = assert-program in
         let x = assertFirst b a d s in
         let t : Store = record { count = x .store .count; full = false } in
-        let v = x .answer .unless in
+        let v = x .answer .notB in
         let T = withCount r (x .store .count) in
         let ua = users-tell r w a (2 * r .n) (F .address .long) .so (F .address .names) in
         let Y = write-means (r .n) b v a (record { h = value (x .words) σ b; l = value (x .words) σ v }) (pairs σ (x .words) a (r .n)) [] (length-pairs σ (x .words) a 0 (r .n)) (x .words) t (X .standard)
-        (user-means {s = t} (X .standard) (user-grows (X .extends) b (names r w b .so (F .control)))) (user-means {s = t} (X .standard) (is-user (x .words) (t .count) v (X .post .unless .below) (X .post .unless .from)))
+        (user-means {s = t} (X .standard) (user-grows (X .extends) b (names r w b .so (F .control)))) (user-means {s = t} (X .standard) (is-user (x .words) (t .count) v (X .post .notB .below) (X .post .notB .from)))
         (names-halves σ T (x .words) (X .standard) a (r .n) (users-tell T (x .words) a (2 * r .n) (F .address .long) .is (users-stay s (x .words) (t .count) (r .asserted) (r .checked) (user-grows (X .extends)) a ua))) in
         grown-clear (extends-trans (X .extends) (Y .extends)) (Y .standard)

@@ -22,7 +22,7 @@ use Rattle.conditions.specs.Meaning.{Stands, Builds}
 use Rattle.conditions.proofs.Promises.{clear-keep, stands-value, value-1}
 use Rattle.model.specs.Pairs.{Pair, legals, admit, unique, at}
 use Rattle.model.specs.Record.{Record, withCount, withEntries, withAsserted, withChecked, entryAt, appended, listCapacity}
-use Rattle.model.specs.Access.{Marks, Write, Read, Asserted, Assert, Check}
+use Rattle.model.specs.Access.{Marks, Write, Read, AssertBuilt, Assert, Check}
 use Rattle.model.specs.Rows.{row8}
 use Rattle.model.specs.Step.{State, write, read, assert, check, NodeCall, evaluate, variable, ite, Call, access, nodeCall, Given, place, filled, entered, kept, accepted, valued, node, Answer, refused, done, Result, refusal, turnedDown, cleared, Finish, full, short, gives, closed, unlessFull, begin, grown, withEntry, withAssertCondition, withCheckCondition, assertFirst, enter, finishAccess, finishNode, finish, turnedDownBy, step}
 use Rattle.model.specs.Published.{Entry, entry, answer, checkHolds, assertHolds, control, keeps}
@@ -34,7 +34,7 @@ use Rattle.model.proofs.PairLaws.{eq→T}
 use Rattle.model.proofs.KeptLaws.{SameHeld, same-after, same-kept}
 use Rattle.model.proofs.MeansLaws.{Means, up, near-self, ite-means, variable-means}
 use Rattle.model.proofs.HalfLaws.{half-even, half-odd}
-use Rattle.model.proofs.AccessLaws.{Halves, EntryMeans, noEntry, EntriesMean, up-halves, up-entries, MarksMean, write-means, read-means, check-means, AssertedMean, assert-means}
+use Rattle.model.proofs.AccessLaws.{Halves, EntryMeans, noEntry, EntriesMean, up-halves, up-entries, MarksMean, write-means, read-means, check-means, AssertBuiltMean, assert-means}
 use Rattle.model.proofs.ListLaws.{new-address, new-data, entry-old, entry-new}
 use Rattle.model.proofs.FactLaws.{space-room, write-facts, read-facts, check-facts, assert-facts, variable-facts, ite-facts}
 use Rattle.model.proofs.RowLaws.{length-pairs, name-means, names-halves, pair-legal, pairs-legal, pairs-unique}
@@ -305,13 +305,13 @@ module _ (k : ℕ) (small : k < 2 ^ 64) (s : State) (h : Held) (H : Holds (bitAt
     ld : length ds ≡ r .w
     ld = length-pairs σ (s .words) d 0 (r .w)
 
-    abbrev x : Outcome Asserted
+    abbrev x : Outcome AssertBuilt
     x = assertFirst b a d s
 
     legal-arguments : Accepted (r .n) (r .w) (asserts β qs ds)
     legal-arguments = ((pairs-legal k small r (s .words) a (r .n) (facts .compared .address .legal), lq), (pairs-legal k small r (s .words) d (r .w) (facts .compared .word .legal), ld), pairs-unique k small r (s .words) a b (facts .known))
 
-    pub assert-builds : Builds (s .words) (begin r) (AssertedMean σ (κ && assertHolds (r .n) (r .w) (h .entries) β qs ds) (not β) (keeps (r .n) (r .w) (h .entries) β qs ds)) x
+    pub assert-builds : Builds (s .words) (begin r) (AssertBuiltMean σ (κ && assertHolds (r .n) (r .w) (h .entries) β qs ds) (not β) (keeps (r .n) (r .w) (h .entries) β qs ds)) x
     assert-builds = assert-means r (s .list) (facts .compared .memory .range .n-most) (h .entries) b β κ a d qs ds lq (s .words) (begin r) standard (H .entries) control-means addresses datas condition
 
     module _ (free : x .store .full ≡ false) where
@@ -339,13 +339,13 @@ module _ (k : ℕ) (small : k < 2 ^ 64) (s : State) (h : Held) (H : Holds (bitAt
 
       -- its Write
       abbrev y : Outcome Marks
-      y = Write (r .n) b (x .answer .unless) a (x .words) one
+      y = Write (r .n) b (x .answer .notB) a (x .words) one
 
       pub enter-builds : Builds (x .words) one (MarksMean σ (entry (control β) qs ds)) y
       enter-builds =
-          write-means (r .n) b (x .answer .unless) a (control β) qs ds lq (x .words) one (assert-builds .standard)
+          write-means (r .n) b (x .answer .notB) a (control β) qs ds lq (x .words) one (assert-builds .standard)
           (free-store (λ (t : Store). Means σ 8 (λ τ. β) (x .words) t b) (x .store) free (up standard assert-builds control-means))
-          (free-store (λ (t : Store). Means σ 8 (λ τ. not β) (x .words) t (x .answer .unless)) (x .store) free (assert-builds .post .unless))
+          (free-store (λ (t : Store). Means σ 8 (λ τ. not β) (x .words) t (x .answer .notB)) (x .store) free (assert-builds .post .notB))
           (free-store (λ (t : Store). Halves σ 8 (2 * r .n) (λ τ. at qs) (x .words) t a) (x .store) free (up-halves standard assert-builds addresses))
 
       -- an assert that is entered

@@ -1,5 +1,5 @@
 -- What a state becomes when a call succeeds: it extends what was there, and is valid where that was.
-use mathlib.Core.Path.{_≡_, refl}
+use mathlib.Core.Path.{_≡_, refl, ap}
 use mathlib.Core.Bool.{true}
 use mathlib.Core.List.{List, _∷_, _++_}
 use Prim.Native.Nat.{ℕ, zero, suc, _+_, _*_, _-_, _<_, _≤_}
@@ -12,13 +12,18 @@ use Rattle.nodes.proofs.SearchLaws.{every-is, is-every}
 use Rattle.conditions.specs.Stores.{Standard, Agree, Extends}
 use Rattle.conditions.specs.User.{isUser}
 use Rattle.conditions.proofs.Promises.{from-stays, is-standard, user-is, is-user}
-use Rattle.model.specs.Record.{size, listCapacity, appended}
+use Rattle.model.specs.Record.{Record, size, listCapacity, appended}
 use Rattle.model.specs.Access.{Marks}
-use Rattle.model.specs.Rows.{users, row1}
+use Rattle.model.specs.Rows.{users, row1, row3}
 use Rattle.model.specs.Step.{State, grown, withEntry, withAssertCondition, withCheckCondition}
 use Rattle.model.specs.Frames.{Extended, Valid}
+use Rattle.model.specs.Table.{Listed}
 use Rattle.model.proofs.ListLaws.{entry-word, appended-length, appended-old, appended-past, entry-new}
-use Rattle.model.proofs.ThirdLaws.{User, Third, third-is, is-third}
+use Rattle.model.proofs.FactLaws.{fits-is, names, row3-tells}
+
+-- a word that names a node which 5 accepts
+abbrev pub User : State → ℕ → Type 0
+User s n = isUser (s .words) (s .rec .count) n ≡ true
 
 -- a node that 5 accepts stays one where the older nodes stay
 pub user-stays : {w w′ : List ℕ} {c : ℕ} (c′ : ℕ) → Agree w w′ c → c ≤ c′ → (n : ℕ) → isUser w c n ≡ true → isUser w′ c′ n ≡ true
@@ -45,11 +50,19 @@ module _ (s : State) (w : List ℕ) (c v u : ℕ) where
     pub conditions-valid : Standard w c → (User s (s .rec .asserted) → isUser w c v ≡ true) → (User s (s .rec .checked) → isUser w c u ≡ true) → Valid s → Valid (withConditions s w c v u)
     unfolding row1 listCapacity
     conditions-valid S A C H =
-        let T = third-is s (H .three) in
+        let r = s .rec in
+        let t = withConditions s w c v u .rec in
+        let T = row3-tells r (s .words) (s .list) .is (H .three) in
         record {
           one = H .one;
           two = is-standard w c S;
-          three = is-third (withConditions s w c v u) (record { fits = T .fits; words = λ k h. stays _ (T .words k h); asserted = A (T .asserted); checked = C (T .checked) });
+          three = row3-tells t w (s .list) .so (record {
+            within = T .within;
+            most = T .most;
+            words = λ k h. names t w _ .is (stays _ (names r (s .words) _ .so (T .words k h)));
+            asserted = names t w v .is (A (names r (s .words) (r .asserted) .so (T .asserted)));
+            checked = names t w u .is (C (names r (s .words) (r .checked) .so (T .checked)));
+          });
         }
 
   module _ (E : Extends (s .words) (s .rec .count) w c) where
@@ -71,6 +84,12 @@ module _ (s : State) (w : List ℕ) (c v u : ℕ) where
           past = appended-past r (s .list) (m .hard) (m .soft) a d na wd room;
         }
 
+-- row 3 of a memory with no entries
+pub no-entries : (r : Record) (w l : List ℕ) → r .entries ≡ 0 → isUser w (r .count) (r .asserted) ≡ true → isUser w (r .count) (r .checked) ≡ true → row3 r w l ≡ true
+no-entries r w l z a c =
+    let none : r .entries * size r ≡ 0 * size r = ap (λ (k : ℕ). k * size r) z in
+    row3-tells r w l .so (record { within = omega (arith, none); most = omega (arith, z); words = λ k h. absurd (omega (arith, none)); asserted = names r w _ .is a; checked = names r w _ .is c })
+
 -- an entry of nodes that 5 accepts
 module _ (s : State) (m : Marks) (a d : List ℕ) (na : length a ≡ 2 * s .rec .n) (wd : length d ≡ 2 * s .rec .w) (room : s .rec .entries < listCapacity (s .rec) (s .list))
     (hard : User s (m .hard)) (soft : User s (m .soft)) (address : users (s .rec) (s .words) a ≡ true) (word : users (s .rec) (s .words) d ≡ true) where
@@ -86,8 +105,8 @@ module _ (s : State) (m : Marks) (a d : List ℕ) (na : length a ≡ 2 * s .rec 
       go (yes h) = rw (List·getD-append a d 0 i h) (users-at s a address i h)
       go (no h) = let z : i ≡ length a + (i - length a) = omega arith in rw (z, getD-append-add a d (i - length a) 0) (users-at s d word (i - length a) (omega arith))
 
-  word-user : Third s → (k : ℕ) → k < (s .rec .entries + 1) * size (s .rec) → Dec (k < s .rec .entries * size (s .rec)) → User s (getD l k 0)
-  word-user T k h (yes b) = rw (appended-old (s .rec) (s .list) (m .hard) (m .soft) a d na wd room k b) (T .words k b)
+  word-user : Listed (s .rec) (s .words) (s .list) → (k : ℕ) → k < (s .rec .entries + 1) * size (s .rec) → Dec (k < s .rec .entries * size (s .rec)) → User s (getD l k 0)
+  word-user T k h (yes b) = rw (appended-old (s .rec) (s .list) (m .hard) (m .soft) a d na wd room k b) (names (s .rec) (s .words) _ .so (T .words k b))
   word-user T k h (no b) =
       let i = k - s .rec .entries * size (s .rec) in
       let z : k ≡ s .rec .entries * size (s .rec) + i = omega arith in
@@ -97,13 +116,16 @@ module _ (s : State) (m : Marks) (a d : List ℕ) (na : length a ≡ 2 * s .rec 
   pub entry-valid : Valid s → Valid (withEntry s m a d)
   unfolding row1 listCapacity
   entry-valid H =
-      let T = third-is s (H .three) in
+      let r = withEntry s m a d .rec in
+      let T = row3-tells (s .rec) (s .words) (s .list) .is (H .three) in
+      let F = fits-is (s .rec) (s .list) (s .rec .entries + 1) (omega arith) in
       record {
         one = H .one;
         two = H .two;
-        three = is-third (withEntry s m a d) (record {
-          fits = rw (appended-length (s .rec) (s .list) (m .hard) (m .soft) a d na wd room) (omega arith);
-          words = λ k h. word-user T k h (decLt k (s .rec .entries * size (s .rec)));
+        three = row3-tells r (s .words) l .so (record {
+          within = rw (appended-length (s .rec) (s .list) (m .hard) (m .soft) a d na wd room) (F .0);
+          most = F .1;
+          words = λ k h. names r (s .words) _ .is (word-user T k h (decLt k (s .rec .entries * size (s .rec))));
           asserted = T .asserted;
           checked = T .checked;
         });

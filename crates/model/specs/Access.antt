@@ -119,13 +119,13 @@ Check r l b a d = do
   And (r .checked) y
 
 -- what an assert builds before its entry: the assert condition, Not b, and Or(Not b, And(A,C))
-pub record Asserted : Type 0 where
+pub record AssertBuilt : Type 0 where
   pub condition : ℕ
-  pub unless : ℕ
+  pub notB : ℕ
   pub keep : ℕ
 
 -- "Assert(b,a,d): Look; A likewise with d inside r; assert condition becomes And(it, Or(Not b, A)). Then C as in a check; if Or(Not b, And(A,C)) is 1"
-unfoldable pub Assert : Record → List ℕ → ℕ → List ℕ → List ℕ → Build Asserted
+unfoldable pub Assert : Record → List ℕ → ℕ → List ℕ → List ℕ → Build AssertBuilt
 Assert r l b a d = do
   word ← Look r l a
   below ← Inside (cellWords r) d word
@@ -135,4 +135,4 @@ Assert r l b a d = do
   above ← Inside (cellWords r) word d
   z ← And below above
   k ← Or v z
-  pure (record { condition = condition; unless = v; keep = k })
+  pure (record { condition = condition; notB = v; keep = k })

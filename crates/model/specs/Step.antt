@@ -12,7 +12,7 @@ use Rattle.conditions.specs.Ite.{Ite}
 use Rattle.conditions.specs.Value.{value}
 use Rattle.conditions.specs.Assignment.{bitAt}
 use Rattle.model.specs.Record.{Record, withCount, withEntries, withAsserted, withChecked, appended}
-use Rattle.model.specs.Access.{Marks, Write, Read, Asserted, Assert, Check}
+use Rattle.model.specs.Access.{Marks, Write, Read, AssertBuilt, Assert, Check}
 use Rattle.model.specs.Rows.{firstRow, row1, row8, writeRows, readRows, assertRows, checkRows, evaluateRows, variableRows, iteRows}
 
 -- "Record, node words and list go from call to call as the last one left them"
@@ -157,15 +157,15 @@ abbrev pub withCheckCondition : State → ℕ → State
 withCheckCondition s v = withRecord s (withChecked (s .rec) v)
 
 -- what an assert builds before its entry
-abbrev pub assertFirst : ℕ → List ℕ → List ℕ → State → Outcome Asserted
+abbrev pub assertFirst : ℕ → List ℕ → List ℕ → State → Outcome AssertBuilt
 assertFirst b a d s = Assert (s .rec) (s .list) b a d (s .words) (begin (s .rec))
 
 -- "if Or(Not b, And(A,C)) is 1 the assert is kept, else entered by Write((b, Not b),a,d)"; "8 is met when the entry is needed, before its Write builds anything"
-unfoldable pub enter : State → ℕ → List ℕ → List ℕ → Asserted → List ℕ → ℕ → Finish
+unfoldable pub enter : State → ℕ → List ℕ → List ℕ → AssertBuilt → List ℕ → ℕ → Finish
 enter s b a d q w c =
     cond (eqb (q .keep) 1) (gives kept (withAssertCondition (grown s w c) (q .condition)))
     (cond (row8 (s .rec) (s .words) (s .list))
-    (unlessFull (Write (s .rec .n) b (q .unless) a w (record { count = c; full = false })) (λ m w c. gives entered (withEntry (withAssertCondition (grown s w c) (q .condition)) m a d)))
+    (unlessFull (Write (s .rec .n) b (q .notB) a w (record { count = c; full = false })) (λ m w c. gives entered (withEntry (withAssertCondition (grown s w c) (q .condition)) m a d)))
     short)
 
 -- a call that no row refuses: its program, and what it gives and leaves

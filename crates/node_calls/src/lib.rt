@@ -25,7 +25,7 @@ pub struct ValueDone {
 fn fresh_row(words: &[u32], n: u32, w: u32) -> u32
     ensures { λ x. ⌜ x ≡ freshRows n w (now (words .entry)) ⌝ }
 {
-    if !rows::in_range(n, w) {
+    if !ranges::in_range(n, w) {
         return 1;
     }
     if words.len() < 6 { 2 } else { 0 }

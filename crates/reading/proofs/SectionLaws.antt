@@ -11,18 +11,17 @@ use lib.ListN.{length, getD}
 use borrow.Author.Tests.{lt-leb, le-leb, leb-true}
 use Rattle.nodes.specs.Words.{withNode, withTerminals, capacityOf}
 use Rattle.nodes.specs.Standard.{counted, isStandard, Standard}
-use Rattle.nodes.proofs.BoolLaws.{and-both}
 use Rattle.nodes.proofs.TestLaws.{test-fails, test-holds}
 use Rattle.nodes.proofs.WordsLaws.{node-length, node-other}
 use Rattle.nodes.proofs.StandardLaws.{counted-is}
 use Rattle.conditions.proofs.Promises.{standard-is, is-standard, is-user}
 use Rattle.model.specs.Record.{Record}
 use Rattle.model.specs.Rows.{firstRow, row1}
-use Rattle.model.specs.Step.{State}
+use Rattle.model.specs.Step.{State, freshRecord}
 use Rattle.model.specs.Claims.{Begins}
 use Rattle.model.specs.Frames.{Valid}
-use Rattle.model.proofs.FactLaws.{rows-hold}
-use Rattle.model.proofs.ThirdLaws.{is-third}
+use Rattle.model.proofs.FactLaws.{rows-hold, row1-tells}
+use Rattle.model.proofs.ValidLaws.{no-entries}
 use Rattle.reading.specs.declared.Loaded.{Loaded}
 use Rattle.reading.specs.declared.Loaded.the-variants.{Ready}
 use Rattle.reading.specs.Bytes.{numberAt}
@@ -68,7 +67,7 @@ module _ (file words : List ℕ) where
   pub no-head : length file < 2 → 10 ≡ firstRow (earlyRows file words)
   no-head h = rw (lt-leb 2 (length file) h)
 
-  module _ (h : 2 ≤ length file) {n w : ℕ} (en : n ≡ getD file 0 0) (ew : w ≡ getD file 1 0) {b : Bool} (e : b ≡ row1 (firstRecord n w 2) []) where
+  module _ (h : 2 ≤ length file) {n w : ℕ} (en : n ≡ getD file 0 0) (ew : w ≡ getD file 1 0) {b : Bool} (e : b ≡ row1 (freshRecord n w) []) where
     range-same : b ≡ row1 (recordIn file) words
     unfolding row1
     range-same = rw (← en, ← ew) e
@@ -148,12 +147,7 @@ pub record SectionsRead (file words ws : List ℕ) (n w count accesses at : ℕ)
   pub past : (j : ℕ) → count * 3 ≤ j → getD ws j 0 ≡ getD words j 0
 
 range-is : (n w count : ℕ) (ws : List ℕ) → row1 (firstRecord n w count) ws ≡ true → ((1 ≤ n) × (n ≤ 8)) × ((1 ≤ w) × (w ≤ 16))
-unfolding row1
-range-is n w count ws e =
-    let p = and-both (leb 1 n && leb n 8 && leb 1 w) (leb w 16) e in
-    let q = and-both (leb 1 n && leb n 8) (leb 1 w) (p .0) in
-    let r = and-both (leb 1 n) (leb n 8) (q .0) in
-    ((leb-true 1 n (r .0), leb-true n 8 (r .1)), (leb-true 1 w (q .1), leb-true w 16 (p .1)))
+range-is n w count ws e = let R = row1-tells (firstRecord n w count) ws .is e in ((R .n-least, R .n-most), (R .w-least, R .w-most))
 
 range-words : (r : Record) (ws us : List ℕ) → row1 r ws ≡ true → row1 r us ≡ true
 unfolding row1
@@ -235,5 +229,5 @@ module _ {file words ws : List ℕ} {n w count accesses at : ℕ} (R : SectionsR
       record {
         one = R .range;
         two = is-standard ws count S;
-        three = is-third firstState (record { fits = omega arith; words = λ k h. absurd (omega arith); asserted = u; checked = u });
+        three = no-entries (firstRecord n w count) ws list refl u u;
       }

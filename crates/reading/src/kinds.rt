@@ -1,5 +1,6 @@
 // The kinds of accesses.
 ghost use mathlib.Core.Path.{_≡_};
+ghost use Prim.Native.Nat.{_+_, _*_, _≤_};
 ghost use Rattle.reading.specs.Kinds.{kindOf, isKnown, sizeOf};
 use super::Kind;
 
@@ -29,17 +30,31 @@ pub fn is_known(kind: Kind) -> bool
     }
 }
 
+// Where the address ends among the nodes of an access, which has so many of control before it.
+pub fn address_end(control: usize, n: u32) -> usize
+    requires { ⌜ control ≤ 2 ⌝ }
+    ensures { λ r. ⌜ r ≡ control + 2 * n ⌝ }
+{
+    control + 2 * (n as usize)
+}
+
+// Where the data ends, which begins there.
+pub fn data_end(control: usize, n: u32, w: u32) -> usize
+    requires { ⌜ control ≤ 2 ⌝ }
+    ensures { λ r. ⌜ r ≡ control + 2 * n + 2 * w ⌝ }
+{
+    address_end(control, n) + 2 * (w as usize)
+}
+
 // How many nodes an access of this kind has.
 pub fn operands(kind: Kind, n: u32, w: u32) -> usize
     ensures { λ r. ⌜ r ≡ sizeOf kind n w ⌝ }
 {
-    let a = 2 * (n as usize);
-    let d = 2 * (w as usize);
     match kind {
-        Kind::Write => 2 + a + d,
-        Kind::Read => 2 + a,
-        Kind::Assert => 1 + a + d,
-        Kind::Check => 1 + a + d,
+        Kind::Write => data_end(2, n, w),
+        Kind::Read => address_end(2, n),
+        Kind::Assert => data_end(1, n, w),
+        Kind::Check => data_end(1, n, w),
         Kind::Unknown => 0,
     }
 }

@@ -7,6 +7,8 @@ mod sections;
 
 pub use bytes::number_at;
 pub use bytes::read_numbers;
+pub use kinds::address_end;
+pub use kinds::data_end;
 pub use kinds::kind_of;
 pub use kinds::operands;
 pub use reader::Advance;

@@ -1,13 +1,12 @@
 // The sections before the accesses.
 ghost use mathlib.Core.Path.{_≡_};
-ghost use mathlib.Core.List.{[]};
 ghost use Prim.Native.Nat.{_+_, _*_, _≤_};
 ghost use lib.ListN.{length, getD};
 ghost use Rattle.nodes.specs.Words.{withNode};
 ghost use Rattle.nodes.specs.Standard.{counted};
-ghost use Rattle.model.specs.Rows.{firstRow, row1, row2};
+ghost use Rattle.model.specs.Rows.{firstRow};
 ghost use Rattle.reading.specs.Bytes.{numberAt};
-ghost use Rattle.reading.specs.Sections.{withNodes, sectionsOf, firstRecord, nodesIn, earlyRows, sections};
+ghost use Rattle.reading.specs.Sections.{withNodes, sectionsOf, earlyRows, sections};
 use super::Loaded;
 use super::bytes::number_at;
 use super::bytes::wide;
@@ -35,13 +34,6 @@ fn store_nodes(bytes: &[u8], at: usize, k: u32, words: &mut [u32])
     }
 }
 
-// Row 1.
-fn in_range(n: u32, w: u32) -> bool
-    ensures { λ r. ⌜ r ≡ row1 (firstRecord n w 2) [] ⌝ }
-{
-    (1 <= n) & (n <= 8) & (1 <= w) & (w <= 16)
-}
-
 // The part of row 2 that is tested before the nodes are stored.
 fn has_room(words: &[u32], k: u32) -> bool
     requires { ⌜ k ≤ 65535 ⌝ }
@@ -57,7 +49,7 @@ fn early_row(bytes: &[u8], words: &[u32]) -> u32
     if bytes.len() < 2 {
         return 10;
     }
-    if !in_range(wide(bytes[0]), wide(bytes[1])) {
+    if !ranges::in_range(wide(bytes[0]), wide(bytes[1])) {
         return 1;
     }
     if bytes.len() < 4 {

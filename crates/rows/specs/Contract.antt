@@ -6,12 +6,15 @@ use Prim.Native.Nat.{ℕ, zero, suc, _*_, _<_, _≤_}
 use lib.ListN.{length, getD}
 use Rattle.conditions.specs.Stores.{clearOf}
 use Rattle.conditions.specs.Contract.{Sound}
+use Rattle.conditions.specs.Meet.{neither, together}
 use Rattle.model.specs.Record as model
 use Rattle.model.specs.Rows.{Row, users, legalPairs}
 use Rattle.model.specs.Step.{State, Access, NodeCall, Given, Answer, refused, done, isRefused, begin}
 use Rattle.model.specs.Chain.{AnswersNode}
 pub use Rattle.model.specs.Chain.{Answers}
 use Rattle.rows.specs.declared.Fields.{Fields}
+use Rattle.rows.specs.declared.slices.Fault.{Fault}
+use Rattle.rows.specs.declared.slices.Fault.the-variants as faults
 
 -- the record, node words and list of a call
 abbrev pub recordOf : Fields → model.Record
@@ -49,6 +52,16 @@ argumentRows r w c k a d m = (5, users r w c && users r w a && users r w d) ∷ 
 -- the first k words of a slice are nodes
 pub record FirstNodes (c k : ℕ) (ws : List ℕ) : Type 0 where
   pub at : (i : ℕ) → i < k → getD ws i 0 < c
+
+-- whether some assignment makes a pair what it may not be: neither, or X where b holds
+abbrev pub hasFault : List ℕ → Fault → ℕ → ℕ → Bool
+hasFault w faults.Neither h l = neither w h l
+hasFault w (faults.Unknown b) h l = together w (b .0) h l
+
+-- its b is a node
+abbrev pub FaultNames : ℕ → Fault → Type 0
+FaultNames c faults.Neither = Unit {0}
+FaultNames c (faults.Unknown b) = b .0 < c
 
 -- a list with space for one entry more, and the entry's address and data
 pub record EntryFits (r : Fields) (l a d : List ℕ) : Type 0 where

@@ -7,7 +7,7 @@ ghost use lib.ListN.{length};
 ghost use Rattle.conditions.specs.Stores.{Standard};
 ghost use Rattle.model.specs.Record.{size, listCapacity, appended};
 ghost use Rattle.model.specs.Rows.{firstRow, row1, row2, row3, memoryRows, checkRows};
-ghost use Rattle.model.specs.Step.{begin, freshRecord};
+ghost use Rattle.model.specs.Step.{begin};
 ghost use Rattle.model.specs.Frames.{Valid};
 ghost use Rattle.rows.specs.Contract.{recordOf, stateOf, argumentRows, clearedWhere, EntryFits};
 
@@ -18,8 +18,8 @@ use access::ControlNode;
 use access::Marks;
 pub use append::copy;
 use conditions::Store;
-pub use slices::apart;
 pub use slices::legal_pairs;
+pub use slices::none_unknown;
 pub use slices::users_up_to;
 
 // A record's fields: n address bits and w data bits, the counts of nodes and entries, and the two conditions.
@@ -36,13 +36,6 @@ pub struct Fields {
 pub struct Done {
     pub after: Fields,
     pub row: u32,
-}
-
-// Row 1.
-pub fn in_range(n: u32, w: u32) -> bool
-    ensures { λ r. ⌜ r ≡ row1 (freshRecord n w) [] ⌝ }
-{
-    (1 <= n) & (n <= 8) & (1 <= w) & (w <= 16)
 }
 
 // Whether a call is refused after it has built, by 9 or 8; the words past the count are then cleared.
@@ -98,7 +91,7 @@ impl Fields {
     pub fn store_row(self, words: &[u32]) -> u32
         ensures { λ r. ⌜ r ≡ firstRow ((1, row1 (recordOf self) (now (words .entry))) ∷ (2, row2 (recordOf self) (now (words .entry))) ∷ []) ⌝ }
     {
-        let x = in_range(self.n, self.w);
+        let x = ranges::in_range(self.n, self.w);
         let y = conditions::is_standard(words, self.count);
         if !x {
             return 1;
@@ -107,7 +100,7 @@ impl Fields {
     }
 
     // Row 3.
-    fn is_listed(self, words: &[u32], list: &[u32]) -> bool
+    fn has_valid_list(self, words: &[u32], list: &[u32]) -> bool
         requires { ⌜ (self .n ≤ 8) × (self .w ≤ 16) × Standard (now words) (self .count) ⌝ }
         ensures { λ r. ⌜ r ≡ row3 (recordOf self) (now (words .entry)) (now (list .entry)) ⌝ }
     {
@@ -129,7 +122,11 @@ impl Fields {
         if k != 0 {
             return k;
         }
-        if self.is_listed(words, list) { 0 } else { 3 }
+        if self.has_valid_list(words, list) {
+            0
+        } else {
+            3
+        }
     }
 
     // The row, 5 or 6, that refuses the arguments of an access, or 0: words of control with k pairs, an address, and data of m pairs.

@@ -16,20 +16,20 @@ check-row-requires c κs = search needs
 returns : tie.Need-returns
 returns c = sym (first-refuses (checkRows (recordOf (c .before .before .before .before .before .before .args .r)) (now (c .before .before .before .before .before .before .args .words)) (now (c .before .before .before .before .before .before .args .list)) (c .before .before .before .before .before .before .args .b .0) (now (c .before .before .before .before .before .before .args .address)) (now (c .before .before .before .before .before .before .args .«data»))) (drop 6 (assertRows (recordOf (c .before .before .before .before .before .before .args .r)) (now (c .before .before .before .before .before .before .args .words)) (now (c .before .before .before .before .before .before .args .list)) (c .before .before .before .before .before .before .args .b .0) (now (c .before .before .before .before .before .before .args .address)) (now (c .before .before .before .before .before .before .args .«data»)))) _ (c .before .check-row .ensures) (c .if1 .taken))
 
-cast-apart : tie.Need-cast-apart
-cast-apart c = search needs
+cast-none-unknown : tie.Need-cast-none-unknown
+cast-none-unknown c = search needs
 
-apart-requires : tie.Need-apart-requires
-apart-requires c κs =
+none-unknown-requires : tie.Need-none-unknown-requires
+none-unknown-requires c κs =
     let H = compared (c .before .before .before .before .before .before .before .args .r) (now (c .before .before .before .before .before .before .before .args .words)) (now (c .before .before .before .before .before .before .before .args .list)) (c .before .before .before .before .before .before .before .args .b .0) (now (c .before .before .before .before .before .before .before .args .address)) (now (c .before .before .before .before .before .before .before .args .«data»)) (c .before .before .check-row .ensures) (c .before .if1 .left) in
     (valid-standard (stateOf (c .before .before .before .before .before .before .before .args .r) (now (c .before .before .before .before .before .before .before .args .words)) (now (c .before .before .before .before .before .before .before .args .list))) (c .before .before .before .before .before .before .before .pre .0), omega (arith, H .control), omega (arith, c .before .before .before .before .before .before .before .pre .1), H .looks .few, record { at = λ i h. H .looks .nodes .at i (omega (arith, c .before .before .before .before .before .before .before .pre .1)) })
 
 returns-2 : tie.Need-returns-2
-returns-2 c = rw (assert-row-is (c .before .before .before .before .before .before .before .before .before .args .r) (now (c .before .before .before .before .before .before .before .before .before .args .words)) (now (c .before .before .before .before .before .before .before .before .before .args .list)) (c .before .before .before .before .before .before .before .before .before .args .b .0) (now (c .before .before .before .before .before .before .before .before .before .args .address)) (now (c .before .before .before .before .before .before .before .before .before .args .«data»)) (c .before .before .before .before .check-row .ensures) (c .before .before .before .if1 .left), ← c .before .apart .ensures, c .if2 .taken)
+returns-2 c = rw (assert-row-is (c .before .before .before .before .before .before .before .before .before .args .r) (now (c .before .before .before .before .before .before .before .before .before .args .words)) (now (c .before .before .before .before .before .before .before .before .before .args .list)) (c .before .before .before .before .before .before .before .before .before .args .b .0) (now (c .before .before .before .before .before .before .before .before .before .args .address)) (now (c .before .before .before .before .before .before .before .before .before .args .«data»)) (c .before .before .before .before .check-row .ensures) (c .before .before .before .if1 .left), ← c .before .none-unknown .ensures, c .if2 .taken)
 
 returns-3 : tie.Need-returns-3
-returns-3 c = rw (assert-row-is (c .before .before .before .before .before .before .before .before .before .args .r) (now (c .before .before .before .before .before .before .before .before .before .args .words)) (now (c .before .before .before .before .before .before .before .before .before .args .list)) (c .before .before .before .before .before .before .before .before .before .args .b .0) (now (c .before .before .before .before .before .before .before .before .before .args .address)) (now (c .before .before .before .before .before .before .before .before .before .args .«data»)) (c .before .before .before .before .check-row .ensures) (c .before .before .before .if1 .left), ← c .before .apart .ensures, c .if2 .left)
+returns-3 c = rw (assert-row-is (c .before .before .before .before .before .before .before .before .before .args .r) (now (c .before .before .before .before .before .before .before .before .before .args .words)) (now (c .before .before .before .before .before .before .before .before .before .args .list)) (c .before .before .before .before .before .before .before .before .before .args .b .0) (now (c .before .before .before .before .before .before .before .before .before .args .address)) (now (c .before .before .before .before .before .before .before .before .before .args .«data»)) (c .before .before .before .before .check-row .ensures) (c .before .before .before .if1 .left), ← c .before .none-unknown .ensures, c .if2 .left)
 
 pub assert-row-spec : {M : Type 1} → statement M
 assert-row-spec =
-    tie.close (tie.spec check-row-requires returns cast-apart apart-requires returns-2 returns-3)
+    tie.close (tie.spec check-row-requires returns cast-none-unknown none-unknown-requires returns-2 returns-3)

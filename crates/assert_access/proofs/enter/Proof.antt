@@ -46,7 +46,7 @@ write-marks-requires : tie.Need-write-marks-requires
 write-marks-requires c κs =
     let p = c .before .before .before .before .before .before .before .before .before .before .before .before .before .before .before .before .before .pre in
     let g = left-by (now (c .before .before .before .before .before .before .before .before .before .before .before .before .before .before .before .before .before .args .words)) (c .before .before .before .before .before .before .before .before .before .before .before .before .before .before .before .before .before .args .r .count) (leb (c .before .before .before .before .before .before .before .before .list-capacity .result) (c .before .before .before .before .before .before .before .before .before .before .before .before .before .before .before .before .before .args .r .entries)) (c .before .before .before .before .before .before .clear-where .ensures) (c .before .before .before .if2 .left) in
-    rw (g .0) (p .sound, p .few, p .pairs, more-nodes (p .more) (p .nodes), omega (arith, p .control, p .more), omega (arith, p .unless, p .control, p .more))
+    rw (g .0) (p .sound, p .few, p .pairs, more-nodes (p .more) (p .nodes), omega (arith, p .control, p .more), omega (arith, p .notB, p .control, p .more))
 
 clear-where-requires-2 : tie.Need-clear-where-requires-2
 clear-where-requires-2 c κs =

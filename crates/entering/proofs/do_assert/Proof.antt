@@ -12,26 +12,14 @@ use borrow.Author.Needs.{needs}
 use Rattle.entering.proofs.do_assert.Statement.{statement}
 use Rattle.entering.proofs.do_assert.Tie as tie
 
-cast-a : tie.Need-cast-a
-cast-a c = search needs
+address-end-requires : tie.Need-address-end-requires
+address-end-requires c κs = search needs
 
-mul-a : tie.Need-mul-a
-mul-a c = search needs
+data-end-requires : tie.Need-data-end-requires
+data-end-requires c κs = search needs
 
-add-a : tie.Need-add-a
-add-a c = search needs
-
-cast-d : tie.Need-cast-d
-cast-d c = search needs
-
-mul-d : tie.Need-mul-d
-mul-d c = search needs
-
-add-d : tie.Need-add-d
-add-d c = search needs
-
-shared-slice-read-t24 : tie.Need-shared-slice-read-t24
-shared-slice-read-t24 c = search needs
+shared-slice-read-t22 : tie.Need-shared-slice-read-t22
+shared-slice-read-t22 c = search needs
 
 sub-assert-on : tie.Need-sub-assert-on
 sub-assert-on c = search needs
@@ -55,7 +43,7 @@ part-assert-on-end-2 : tie.Need-part-assert-on-end-2
 part-assert-on-end-2 c = search needs
 
 assert-on-requires : tie.Need-assert-on-requires
-assert-on-requires c κs = (c .before .before .before .before .before .before .before .before .before .before .before .before .before .pre .0 .valid, c .before .before .before .before .before .before .before .before .before .before .before .before .before .pre .0 .sound, part-size (now (c .before .before .before .before .before .before .before .before .before .before .before .before .before .args .ops)) 1 (2 * c .before .before .before .before .before .before .before .before .before .before .before .before .before .args .c .memory .n) (omega (arith, c .before .before .before .before .before .before .before .before .before .before .before .before .before .pre .1)), part-size (now (c .before .before .before .before .before .before .before .before .before .before .before .before .before .args .ops)) (1 + 2 * c .before .before .before .before .before .before .before .before .before .before .before .before .before .args .c .memory .n) (2 * c .before .before .before .before .before .before .before .before .before .before .before .before .before .args .c .memory .w) (omega (arith, c .before .before .before .before .before .before .before .before .before .before .before .before .before .pre .1)))
+assert-on-requires c κs = rw (c .before .before .before .before .before .before .data-end .ensures, c .before .before .before .before .before .before .before .address-end .ensures) (c .before .before .before .before .before .before .before .before .before .before .before .before .before .pre .0 .valid, c .before .before .before .before .before .before .before .before .before .before .before .before .before .pre .0 .sound, part-size (now (c .before .before .before .before .before .before .before .before .before .before .before .before .before .args .ops)) 1 (2 * c .before .before .before .before .before .before .before .before .before .before .before .before .before .args .c .memory .n) (omega (arith, c .before .before .before .before .before .before .before .before .before .before .before .before .before .pre .1)), part-size (now (c .before .before .before .before .before .before .before .before .before .before .before .before .before .args .ops)) (1 + 2 * c .before .before .before .before .before .before .before .before .before .before .before .before .before .args .c .memory .n) (2 * c .before .before .before .before .before .before .before .before .before .before .before .before .before .args .c .memory .w) (omega (arith, c .before .before .before .before .before .before .before .before .before .before .before .before .before .pre .1)))
 
 enum-told : tie.Need-enum-told
 enum-told c = search needs
@@ -89,7 +77,7 @@ same-length-3 c = search needs
 
 returns : tie.Need-returns
 unfolding callOf
-returns c = step-on _ (c .before .before .before .before .before .before .before .before .before .before .before .before .before .before .before .before .before .before .before .before .before .before .before .before .before .before .before .pre .0 .valid) (answers-as assertAnswer (c .before .before .before .before .before .before .enum-told .given .1) (c .before .before .before .before .before .before .before .before .before .before .before .before .before .assert-on .ensures)) (c .before .before .before .before .before .before .before .before .before .before .before .before .before .before .before .before .before .before .before .before .before .before .before .before .before .before .before .args .c .at) (out (now (c .before .before .before .before .before .before .before .before .before .before .before .before .before .before .before .before .before .before .before .before .before .before .before .before .before .before .before .args .buf)) (c .before .before .before .before .before .before .before .before .before .before .before .before .before .before .before .before .before .before .before .before .before .before .before .before .before .before .before .args .c .text)) refl (c .before .before .before .put-assert .ensures) (c .printed .ensures)
+returns c = rw (← c .before .before .before .before .before .before .before .before .before .before .before .before .before .before .before .before .before .before .before .before .data-end .ensures, ← c .before .before .before .before .before .before .before .before .before .before .before .before .before .before .before .before .before .before .before .before .before .address-end .ensures) (step-on _ (c .before .before .before .before .before .before .before .before .before .before .before .before .before .before .before .before .before .before .before .before .before .before .before .before .before .before .before .pre .0 .valid) (answers-as assertAnswer (c .before .before .before .before .before .before .enum-told .given .1) (c .before .before .before .before .before .before .before .before .before .before .before .before .before .assert-on .ensures)) (c .before .before .before .before .before .before .before .before .before .before .before .before .before .before .before .before .before .before .before .before .before .before .before .before .before .before .before .args .c .at) (out (now (c .before .before .before .before .before .before .before .before .before .before .before .before .before .before .before .before .before .before .before .before .before .before .before .before .before .before .before .args .buf)) (c .before .before .before .before .before .before .before .before .before .before .before .before .before .before .before .before .before .before .before .before .before .before .before .before .before .before .before .args .c .text)) refl (c .before .before .before .put-assert .ensures) (c .printed .ensures))
 
 same-length-4 : tie.Need-same-length-4
 same-length-4 c = search needs
@@ -102,7 +90,7 @@ same-length-6 c = search needs
 
 returns-2 : tie.Need-returns-2
 unfolding callOf
-returns-2 c = step-on _ (c .before .before .before .before .before .before .before .before .before .before .before .before .before .before .before .before .before .before .before .before .before .before .before .before .before .before .before .pre .0 .valid) (answers-as assertAnswer (c .before .before .before .before .before .before .enum-told2 .given .1) (c .before .before .before .before .before .before .before .before .before .before .before .before .before .assert-on .ensures)) (c .before .before .before .before .before .before .before .before .before .before .before .before .before .before .before .before .before .before .before .before .before .before .before .before .before .before .before .args .c .at) (out (now (c .before .before .before .before .before .before .before .before .before .before .before .before .before .before .before .before .before .before .before .before .before .before .before .before .before .before .before .args .buf)) (c .before .before .before .before .before .before .before .before .before .before .before .before .before .before .before .before .before .before .before .before .before .before .before .before .before .before .before .args .c .text)) refl (c .before .before .before .put-assert2 .ensures) (c .printed2 .ensures)
+returns-2 c = rw (← c .before .before .before .before .before .before .before .before .before .before .before .before .before .before .before .before .before .before .before .before .data-end .ensures, ← c .before .before .before .before .before .before .before .before .before .before .before .before .before .before .before .before .before .before .before .before .before .address-end .ensures) (step-on _ (c .before .before .before .before .before .before .before .before .before .before .before .before .before .before .before .before .before .before .before .before .before .before .before .before .before .before .before .pre .0 .valid) (answers-as assertAnswer (c .before .before .before .before .before .before .enum-told2 .given .1) (c .before .before .before .before .before .before .before .before .before .before .before .before .before .assert-on .ensures)) (c .before .before .before .before .before .before .before .before .before .before .before .before .before .before .before .before .before .before .before .before .before .before .before .before .before .before .before .args .c .at) (out (now (c .before .before .before .before .before .before .before .before .before .before .before .before .before .before .before .before .before .before .before .before .before .before .before .before .before .before .before .args .buf)) (c .before .before .before .before .before .before .before .before .before .before .before .before .before .before .before .before .before .before .before .before .before .before .before .before .before .before .before .args .c .text)) refl (c .before .before .before .put-assert2 .ensures) (c .printed2 .ensures))
 
 same-length-7 : tie.Need-same-length-7
 same-length-7 c = search needs
@@ -112,19 +100,15 @@ same-length-8 c = search needs
 
 returns-3 : tie.Need-returns-3
 unfolding callOf
-returns-3 c = step-stop _ (c .before .before .before .before .before .before .before .before .before .before .before .before .before .before .before .before .before .before .before .before .before .before .args .c .at) (out (now (c .before .before .before .before .before .before .before .before .before .before .before .before .before .before .before .before .before .before .before .before .before .before .args .buf)) (c .before .before .before .before .before .before .before .before .before .before .before .before .before .before .before .before .before .before .before .before .before .before .args .c .text)) (answers-as assertAnswer (c .before .answer .given .1) (c .before .before .before .before .before .before .before .before .assert-on .ensures))
+returns-3 c = rw (← c .before .before .before .before .before .before .before .before .before .before .before .before .before .before .before .data-end .ensures, ← c .before .before .before .before .before .before .before .before .before .before .before .before .before .before .before .before .address-end .ensures) (step-stop _ (c .before .before .before .before .before .before .before .before .before .before .before .before .before .before .before .before .before .before .before .before .before .before .args .c .at) (out (now (c .before .before .before .before .before .before .before .before .before .before .before .before .before .before .before .before .before .before .before .before .before .before .args .buf)) (c .before .before .before .before .before .before .before .before .before .before .before .before .before .before .before .before .before .before .before .before .before .before .args .c .text)) (answers-as assertAnswer (c .before .answer .given .1) (c .before .before .before .before .before .before .before .before .assert-on .ensures)))
 
 pub do-assert-spec : {M : Type 1} → statement M
 do-assert-spec =
     tie.close
     (tie.spec
-    cast-a
-    mul-a
-    add-a
-    cast-d
-    mul-d
-    add-d
-    shared-slice-read-t24
+    address-end-requires
+    data-end-requires
+    shared-slice-read-t22
     sub-assert-on
     part-assert-on-start
     part-assert-on-end

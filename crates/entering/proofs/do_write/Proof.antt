@@ -11,23 +11,11 @@ use borrow.Author.Needs.{needs}
 use Rattle.entering.proofs.do_write.Statement.{statement}
 use Rattle.entering.proofs.do_write.Tie as tie
 
-cast-a : tie.Need-cast-a
-cast-a c = search needs
+address-end-requires : tie.Need-address-end-requires
+address-end-requires c κs = search needs
 
-mul-a : tie.Need-mul-a
-mul-a c = search needs
-
-add-a : tie.Need-add-a
-add-a c = search needs
-
-cast-d : tie.Need-cast-d
-cast-d c = search needs
-
-mul-d : tie.Need-mul-d
-mul-d c = search needs
-
-add-d : tie.Need-add-d
-add-d c = search needs
+data-end-requires : tie.Need-data-end-requires
+data-end-requires c κs = search needs
 
 sub-write-on : tie.Need-sub-write-on
 sub-write-on c = search needs
@@ -60,7 +48,7 @@ part-write-on-end-3 : tie.Need-part-write-on-end-3
 part-write-on-end-3 c = search needs
 
 write-on-requires : tie.Need-write-on-requires
-write-on-requires c κs = (c .before .before .before .before .before .before .before .before .before .before .before .before .before .pre .0 .valid, c .before .before .before .before .before .before .before .before .before .before .before .before .before .pre .0 .sound, part-size (now (c .before .before .before .before .before .before .before .before .before .before .before .before .before .args .ops)) 0 (2) (omega (arith, c .before .before .before .before .before .before .before .before .before .before .before .before .before .pre .1)), part-size (now (c .before .before .before .before .before .before .before .before .before .before .before .before .before .args .ops)) 2 (2 * c .before .before .before .before .before .before .before .before .before .before .before .before .before .args .c .memory .n) (omega (arith, c .before .before .before .before .before .before .before .before .before .before .before .before .before .pre .1)), part-size (now (c .before .before .before .before .before .before .before .before .before .before .before .before .before .args .ops)) (2 + 2 * c .before .before .before .before .before .before .before .before .before .before .before .before .before .args .c .memory .n) (2 * c .before .before .before .before .before .before .before .before .before .before .before .before .before .args .c .memory .w) (omega (arith, c .before .before .before .before .before .before .before .before .before .before .before .before .before .pre .1)))
+write-on-requires c κs = rw (c .before .before .before .before .before .before .data-end .ensures, c .before .before .before .before .before .before .before .address-end .ensures) (c .before .before .before .before .before .before .before .before .before .before .before .before .before .pre .0 .valid, c .before .before .before .before .before .before .before .before .before .before .before .before .before .pre .0 .sound, part-size (now (c .before .before .before .before .before .before .before .before .before .before .before .before .before .args .ops)) 0 (2) (omega (arith, c .before .before .before .before .before .before .before .before .before .before .before .before .before .pre .1)), part-size (now (c .before .before .before .before .before .before .before .before .before .before .before .before .before .args .ops)) 2 (2 * c .before .before .before .before .before .before .before .before .before .before .before .before .before .args .c .memory .n) (omega (arith, c .before .before .before .before .before .before .before .before .before .before .before .before .before .pre .1)), part-size (now (c .before .before .before .before .before .before .before .before .before .before .before .before .before .args .ops)) (2 + 2 * c .before .before .before .before .before .before .before .before .before .before .before .before .before .args .c .memory .n) (2 * c .before .before .before .before .before .before .before .before .before .before .before .before .before .args .c .memory .w) (omega (arith, c .before .before .before .before .before .before .before .before .before .before .before .before .before .pre .1)))
 
 enum-known-answer : tie.Need-enum-known-answer
 enum-known-answer c = search needs
@@ -85,7 +73,7 @@ same-length-3 c = search needs
 
 returns : tie.Need-returns
 unfolding callOf
-returns c = step-on _ (c .before .before .before .before .before .before .before .before .before .before .before .before .before .before .before .before .before .before .before .before .before .before .before .before .before .before .before .pre .0 .valid) (answers-as writeAnswer (c .before .before .before .before .before .before .answer .given .1) (c .before .before .before .before .before .before .before .before .before .before .before .before .before .write-on .ensures)) (c .before .before .before .before .before .before .before .before .before .before .before .before .before .before .before .before .before .before .before .before .before .before .before .before .before .before .before .args .c .at) (out (now (c .before .before .before .before .before .before .before .before .before .before .before .before .before .before .before .before .before .before .before .before .before .before .before .before .before .before .before .args .buf)) (c .before .before .before .before .before .before .before .before .before .before .before .before .before .before .before .before .before .before .before .before .before .before .before .before .before .before .before .args .c .text)) refl (c .before .before .before .put-write .ensures) (c .printed .ensures)
+returns c = rw (← c .before .before .before .before .before .before .before .before .before .before .before .before .before .before .before .before .before .before .before .before .data-end .ensures, ← c .before .before .before .before .before .before .before .before .before .before .before .before .before .before .before .before .before .before .before .before .before .address-end .ensures) (step-on _ (c .before .before .before .before .before .before .before .before .before .before .before .before .before .before .before .before .before .before .before .before .before .before .before .before .before .before .before .pre .0 .valid) (answers-as writeAnswer (c .before .before .before .before .before .before .answer .given .1) (c .before .before .before .before .before .before .before .before .before .before .before .before .before .write-on .ensures)) (c .before .before .before .before .before .before .before .before .before .before .before .before .before .before .before .before .before .before .before .before .before .before .before .before .before .before .before .args .c .at) (out (now (c .before .before .before .before .before .before .before .before .before .before .before .before .before .before .before .before .before .before .before .before .before .before .before .before .before .before .before .args .buf)) (c .before .before .before .before .before .before .before .before .before .before .before .before .before .before .before .before .before .before .before .before .before .before .before .before .before .before .before .args .c .text)) refl (c .before .before .before .put-write .ensures) (c .printed .ensures))
 
 same-length-4 : tie.Need-same-length-4
 same-length-4 c = search needs
@@ -95,18 +83,14 @@ same-length-5 c = search needs
 
 returns-2 : tie.Need-returns-2
 unfolding callOf
-returns-2 c = step-stop _ (c .before .before .before .before .before .before .before .before .before .before .before .before .before .before .before .before .before .before .before .before .before .before .args .c .at) (out (now (c .before .before .before .before .before .before .before .before .before .before .before .before .before .before .before .before .before .before .before .before .before .before .args .buf)) (c .before .before .before .before .before .before .before .before .before .before .before .before .before .before .before .before .before .before .before .before .before .before .args .c .text)) (answers-as writeAnswer (c .before .answer2 .given .1) (c .before .before .before .before .before .before .before .before .write-on .ensures))
+returns-2 c = rw (← c .before .before .before .before .before .before .before .before .before .before .before .before .before .before .before .data-end .ensures, ← c .before .before .before .before .before .before .before .before .before .before .before .before .before .before .before .before .address-end .ensures) (step-stop _ (c .before .before .before .before .before .before .before .before .before .before .before .before .before .before .before .before .before .before .before .before .before .before .args .c .at) (out (now (c .before .before .before .before .before .before .before .before .before .before .before .before .before .before .before .before .before .before .before .before .before .before .args .buf)) (c .before .before .before .before .before .before .before .before .before .before .before .before .before .before .before .before .before .before .before .before .before .before .args .c .text)) (answers-as writeAnswer (c .before .answer2 .given .1) (c .before .before .before .before .before .before .before .before .write-on .ensures)))
 
 pub do-write-spec : {M : Type 1} → statement M
 do-write-spec =
     tie.close
     (tie.spec
-    cast-a
-    mul-a
-    add-a
-    cast-d
-    mul-d
-    add-d
+    address-end-requires
+    data-end-requires
     sub-write-on
     part-write-on-start
     part-write-on-end

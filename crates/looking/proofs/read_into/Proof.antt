@@ -14,14 +14,8 @@ use borrow.Author.Needs.{needs}
 use Rattle.looking.proofs.read_into.Statement.{statement}
 use Rattle.looking.proofs.read_into.Tie as tie
 
-cast-a : tie.Need-cast-a
-cast-a c = search needs
-
-mul-a : tie.Need-mul-a
-mul-a c = search needs
-
-add-a : tie.Need-add-a
-add-a c = search needs
+address-end-requires : tie.Need-address-end-requires
+address-end-requires c κs = search needs
 
 sub-read-on : tie.Need-sub-read-on
 sub-read-on c = search needs
@@ -42,7 +36,7 @@ part-read-on-end-2 : tie.Need-part-read-on-end-2
 part-read-on-end-2 c = search needs
 
 read-on-requires : tie.Need-read-on-requires
-read-on-requires c κs = (c .before .before .before .before .before .before .before .before .before .before .before .before .pre .0 .valid, c .before .before .before .before .before .before .before .before .before .before .before .before .pre .0 .sound, part-size (now (c .before .before .before .before .before .before .before .before .before .before .before .before .args .ops)) 0 (2) (omega (arith, c .before .before .before .before .before .before .before .before .before .before .before .before .pre .1)), part-size (now (c .before .before .before .before .before .before .before .before .before .before .before .before .args .ops)) 2 (2 * c .before .before .before .before .before .before .before .before .before .before .before .before .args .c .memory .n) (omega (arith, c .before .before .before .before .before .before .before .before .before .before .before .before .pre .1)), ap length (c .before .before .before .before .before .before .before .before .before .before .before .before .pre .2) ∙ length-replicate _ 0)
+read-on-requires c κs = rw (c .before .before .before .before .before .address-end .ensures) (c .before .before .before .before .before .before .before .before .before .before .before .before .pre .0 .valid, c .before .before .before .before .before .before .before .before .before .before .before .before .pre .0 .sound, part-size (now (c .before .before .before .before .before .before .before .before .before .before .before .before .args .ops)) 0 (2) (omega (arith, c .before .before .before .before .before .before .before .before .before .before .before .before .pre .1)), part-size (now (c .before .before .before .before .before .before .before .before .before .before .before .before .args .ops)) 2 (2 * c .before .before .before .before .before .before .before .before .before .before .before .before .args .c .memory .n) (omega (arith, c .before .before .before .before .before .before .before .before .before .before .before .before .pre .1)), ap length (c .before .before .before .before .before .before .before .before .before .before .before .before .pre .2) ∙ length-replicate _ 0)
 
 enum-told : tie.Need-enum-told
 enum-told c = search needs
@@ -67,7 +61,7 @@ same-length-3 c = search needs
 
 returns : tie.Need-returns
 unfolding callOf
-returns c = step-on _ (c .before .before .before .before .before .before .before .before .before .before .before .before .before .before .before .before .before .before .before .before .before .before .before .before .before .before .before .pre .0 .valid) (read-filled (c .before .before .before .before .before .before .before .before .before .before .before .before .before .before .read-on .ensures) _ (c .before .before .before .before .before .before .before .before .before .before .before .before .before .before .before .before .before .before .before .before .before .before .before .before .before .before .before .pre .2) (c .before .before .before .before .before .before .before .enum-told .given .1)) (c .before .before .before .before .before .before .before .before .before .before .before .before .before .before .before .before .before .before .before .before .before .before .before .before .before .before .before .args .c .at) (out (now (c .before .before .before .before .before .before .before .before .before .before .before .before .before .before .before .before .before .before .before .before .before .before .before .before .before .before .before .args .buf)) (c .before .before .before .before .before .before .before .before .before .before .before .before .before .before .before .before .before .before .before .before .before .before .before .before .before .before .before .args .c .text)) refl (c .before .before .before .put-read .ensures) (c .printed .ensures)
+returns c = rw (← c .before .before .before .before .before .before .before .before .before .before .before .before .before .before .before .before .before .before .before .before .address-end .ensures) (step-on _ (c .before .before .before .before .before .before .before .before .before .before .before .before .before .before .before .before .before .before .before .before .before .before .before .before .before .before .before .pre .0 .valid) (read-filled (c .before .before .before .before .before .before .before .before .before .before .before .before .before .before .read-on .ensures) _ (c .before .before .before .before .before .before .before .before .before .before .before .before .before .before .before .before .before .before .before .before .before .before .before .before .before .before .before .pre .2) (c .before .before .before .before .before .before .before .enum-told .given .1)) (c .before .before .before .before .before .before .before .before .before .before .before .before .before .before .before .before .before .before .before .before .before .before .before .before .before .before .before .args .c .at) (out (now (c .before .before .before .before .before .before .before .before .before .before .before .before .before .before .before .before .before .before .before .before .before .before .before .before .before .before .before .args .buf)) (c .before .before .before .before .before .before .before .before .before .before .before .before .before .before .before .before .before .before .before .before .before .before .before .before .before .before .before .args .c .text)) refl (c .before .before .before .put-read .ensures) (c .printed .ensures))
 
 same-length-4 : tie.Need-same-length-4
 same-length-4 c = search needs
@@ -77,15 +71,13 @@ same-length-5 c = search needs
 
 returns-2 : tie.Need-returns-2
 unfolding callOf
-returns-2 c = step-stop _ (c .before .before .before .before .before .before .before .before .before .before .before .before .before .before .before .before .before .before .before .before .before .args .c .at) (out (now (c .before .before .before .before .before .before .before .before .before .before .before .before .before .before .before .before .before .before .before .before .before .args .buf)) (c .before .before .before .before .before .before .before .before .before .before .before .before .before .before .before .before .before .before .before .before .before .args .c .text)) (read-refused (c .before .before .before .before .before .before .before .before .read-on .ensures) _ (c .before .before .before .before .before .before .before .before .before .before .before .before .before .before .before .before .before .before .before .before .before .pre .2) (c .before .answer .given .1))
+returns-2 c = rw (← c .before .before .before .before .before .before .before .before .before .before .before .before .before .before .address-end .ensures) (step-stop _ (c .before .before .before .before .before .before .before .before .before .before .before .before .before .before .before .before .before .before .before .before .before .args .c .at) (out (now (c .before .before .before .before .before .before .before .before .before .before .before .before .before .before .before .before .before .before .before .before .before .args .buf)) (c .before .before .before .before .before .before .before .before .before .before .before .before .before .before .before .before .before .before .before .before .before .args .c .text)) (read-refused (c .before .before .before .before .before .before .before .before .read-on .ensures) _ (c .before .before .before .before .before .before .before .before .before .before .before .before .before .before .before .before .before .before .before .before .before .pre .2) (c .before .answer .given .1)))
 
 pub read-into-spec : {M : Type 1} → statement M
 read-into-spec =
     tie.close
     (tie.spec
-    cast-a
-    mul-a
-    add-a
+    address-end-requires
     sub-read-on
     part-read-on-start
     part-read-on-end

@@ -18,8 +18,8 @@ returns c =
     let w = now (c .before .before .before .before .args .words) in
     sym (first-refuses ((1, row1 r w) ∷ (2, row2 r w) ∷ []) ((3, row3 r w (now (c .before .before .before .before .args .list))) ∷ []) _ (c .before .store-row .ensures) (c .if1 .taken))
 
-is-listed-requires : tie.Need-is-listed-requires
-is-listed-requires c κs =
+has-valid-list-requires : tie.Need-has-valid-list-requires
+has-valid-list-requires c κs =
     let Q = store-holds (recordOf (c .before .before .before .before .args .self)) (now (c .before .before .before .before .args .words)) (c .before .store-row .ensures) (c .if1 .left) in
     let f = in-range-few _ _ (Q .0) in
     (f .0, f .1, standard-is _ _ (Q .1))
@@ -27,13 +27,13 @@ is-listed-requires c κs =
 returns-2 : tie.Need-returns-2
 returns-2 c =
     let Q = store-holds (recordOf (c .before .before .before .before .before .before .args .self)) (now (c .before .before .before .before .before .before .args .words)) (c .before .before .before .store-row .ensures) (c .before .before .if1 .left) in
-    rw (Q .0, Q .1, ← c .before .is-listed .ensures, c .if2 .taken)
+    rw (Q .0, Q .1, ← c .before .has-valid-list .ensures, c .if2 .taken)
 
 returns-3 : tie.Need-returns-3
 returns-3 c =
     let Q = store-holds (recordOf (c .before .before .before .before .before .before .args .self)) (now (c .before .before .before .before .before .before .args .words)) (c .before .before .before .store-row .ensures) (c .before .before .if1 .left) in
-    rw (Q .0, Q .1, ← c .before .is-listed .ensures, c .if2 .left)
+    rw (Q .0, Q .1, ← c .before .has-valid-list .ensures, c .if2 .left)
 
 pub memory-row-spec : {M : Type 1} → statement M
 memory-row-spec =
-    tie.close (tie.spec store-row-requires returns is-listed-requires returns-2 returns-3)
+    tie.close (tie.spec store-row-requires returns has-valid-list-requires returns-2 returns-3)

@@ -1,7 +1,7 @@
 use Rattle.model.specs.Rows.{row1}
 use mathlib.Core.Path.{refl}
-use Rattle.reading.proofs.sections.in_range.Statement.{statement}
-use Rattle.reading.proofs.sections.in_range.Tie as tie
+use Rattle.ranges.proofs.in_range.Statement.{statement}
+use Rattle.ranges.proofs.in_range.Tie as tie
 
 returns : tie.Need-returns
 unfolding row1

@@ -3,8 +3,8 @@ use borrow.Author.Tests.{lt-leb, le-leb}
 use Rattle.model.specs.Rows.{row3}
 use Rattle.model.proofs.ListLaws.{capacity-words}
 use borrow.Author.Needs.{needs}
-use Rattle.rows.proofs.Fields.is_listed.Statement.{statement}
-use Rattle.rows.proofs.Fields.is_listed.Tie as tie
+use Rattle.rows.proofs.Fields.has_valid_list.Statement.{statement}
+use Rattle.rows.proofs.Fields.has_valid_list.Tie as tie
 
 list-capacity-requires : tie.Need-list-capacity-requires
 list-capacity-requires c κs = search needs
@@ -35,8 +35,8 @@ returns-2 : tie.Need-returns-2
 unfolding row3
 returns-2 c = rw (le-leb _ _ (rw (c .before .before .before .before .before .before .before .list-capacity .ensures) at (c .before .before .before .before .before .if1 .left)), ← c .before .before .before .size .ensures, ← c .before .before .users-up-to .ensures, ← c .before .is-user .ensures, ← c .is-user2 .ensures)
 
-pub is-listed-spec : {M : Type 1} → statement M
-is-listed-spec =
+pub has-valid-list-spec : {M : Type 1} → statement M
+has-valid-list-spec =
     tie.close
     (tie.spec
     list-capacity-requires
