@@ -1,5 +1,6 @@
 // The calls of the model by their kind, on lent slices, for the program that runs stored calls.
 use stored::Item;
+use stored::length;
 
 // What a call returned, its out-word, which is 7 before, and the record.
 pub struct Done {
@@ -27,7 +28,7 @@ pub fn node_call(x: Item, r: [u32; 6], nodes: &mut [u32]) -> Done {
 }
 
 // A write or a read.
-pub fn enabled(
+fn enabled(
     kind: u32,
     r: [u32; 6],
     nodes: &mut [u32],
@@ -47,7 +48,7 @@ pub fn enabled(
 }
 
 // An assert or a check.
-pub fn conditional(
+fn conditional(
     kind: u32,
     r: [u32; 6],
     nodes: &mut [u32],
@@ -64,4 +65,31 @@ pub fn conditional(
         capi::md_check(&mut record, nodes, list, b, address, data)
     };
     Done { row, out, record }
+}
+
+// An access whose enable, address and data have the lengths c, d and e; c is b of an assert or a check.
+pub fn access(
+    x: Item,
+    r: [u32; 6],
+    nodes: &mut [u32],
+    list: &mut [u32],
+    enable: &[u32],
+    address: &[u32],
+    data: &mut [u32],
+) -> Done {
+    let e = length(x.c, enable.len());
+    let a = length(x.d, address.len());
+    let d = length(x.e, data.len());
+    if x.kind < 3 {
+        return enabled(
+            x.kind,
+            r,
+            nodes,
+            list,
+            &enable[..e],
+            &address[..a],
+            &mut data[..d],
+        );
+    }
+    conditional(x.kind, r, nodes, list, x.c, &address[..a], &data[..d])
 }

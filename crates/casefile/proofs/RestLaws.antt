@@ -12,13 +12,6 @@ use Rattle.text.specs.Text.{out, growing, appended}
 use Rattle.lines.specs.Lines.{endLine}
 use Rattle.memory.specs.declared.Record.{Record}
 use Rattle.memory.specs.Contract.{stateOf}
-use Rattle.reading.specs.declared.Kind.{Kind}
-use Rattle.reading.specs.declared.Kind.the-variants as kind
-use Rattle.reading.specs.declared.Progress.{Progress}
-use Rattle.reading.specs.declared.Access.the-variants as access
-use Rattle.reading.specs.Bytes.{numbersAt}
-use Rattle.reading.specs.Kinds.{isKnown, sizeOf}
-use Rattle.reading.specs.Accesses.{Found, foundOf, accessAt, goesOn, Finds}
 use Rattle.reading.specs.declared.Loaded.{Loaded}
 use Rattle.reading.specs.declared.Loaded.the-variants as loaded
 use Rattle.reading.specs.Sections.{Sections, sectionsOf, firstRecord, sections}
@@ -30,7 +23,7 @@ use Rattle.entering.specs.declared.Step.{Step}
 use Rattle.entering.specs.declared.Step.the-variants as steps
 use Rattle.casefile.specs.declared.CaseAnswer.{CaseAnswer}
 use Rattle.casefile.specs.declared.CaseAnswer.the-variants as answer
-use Rattle.cases.specs.Case.{Running, stops, callOf, done, doneAs, one, Ended, ended, stopped, lastPrinted, last, after, rest, afterSections, whole, refuses, zeroed, closed, caseOf}
+use Rattle.cases.specs.Case.{Running, one, Ended, ended, stopped, lastPrinted, last, after, rest, afterSections, whole, refuses, zeroed, closed, caseOf}
 use Rattle.entering.specs.Contract.{runningOf, nextOf, Ready, ReadyNext, StepAs}
 use Rattle.casefile.specs.Contract.{endedOf, caseAs}
 
@@ -64,24 +57,6 @@ module _ (file : List ℕ) (n i : ℕ) (h : i < n) (c : Running) (w l b : List �
 pub rest-none : (file : List ℕ) (n i : ℕ) (c : Running) → n ≤ i → rest file (n - i) i c ≡ last file i c
 unfolding rest
 rest-none file n i c h = let e : n - i ≡ 0 = omega arith in rw e
-
--- the access at a place
-module _ (file : List ℕ) (c : Running) (p : Progress) (F : Finds p file (c .at) (c .state .rec .n) (c .state .rec .w)) where
-  pub one-missing : {k : ℕ} → p .access ≡ access.Refused k → stops k ≡ one file c
-  unfolding one
-  one-missing e = ap (λ (x : Found). doneAs file x (goesOn file (c .at) (c .state .rec .n) (c .state .rec .w)) (c .state) (c .text)) (sym (ap foundOf e) ∙ F .0)
-
-  one-here : {k : Kind} {from : ℕ} → p .access ≡ access.Here k from
-      → done (callOf k (c .state .rec .n) (c .state .rec .w) (numbersAt file from (sizeOf k (c .state .rec .n) (c .state .rec .w)))) (c .state) (p .at) (c .text) ≡ one file c
-  unfolding one
-  one-here {k} {from} e =
-      ap (λ (x : Found). doneAs file x (p .at) (c .state) (c .text)) (sym (ap foundOf e) ∙ F .0)
-      ∙ ap (λ (i : ℕ). doneAs file (accessAt file (c .at) (c .state .rec .n) (c .state .rec .w)) i (c .state) (c .text)) (F .1)
-
-  pub step-here : {k : Kind} {from : ℕ} → p .access ≡ access.Here k from → (size : ℕ) → size ≡ sizeOf k (c .state .rec .n) (c .state .rec .w) → {r : Step} {w l b table : List ℕ}
-      → StepAs r w l b table (done (callOf k (c .state .rec .n) (c .state .rec .w) (numbersAt file from size)) (c .state) (p .at) (c .text)) → StepAs r w l b table (one file c)
-  step-here {k} {from} e size z {r} {w} {l} {b} {table} C =
-      subst (StepAs r w l b table) (ap (λ (i : ℕ). done (callOf k (c .state .rec .n) (c .state .rec .w) (numbersAt file from i)) (c .state) (p .at) (c .text)) z ∙ one-here e) C
 
 -- what the loop over the accesses keeps: i are done, and the rest from here is the rest from the start
 pub record Done (file : List ℕ) (n : ℕ) (x : Ended) (w l table b : List ℕ) (c : Run) (i : ℕ) : Type 0 where

@@ -1,25 +1,10 @@
 // Runs the stored case files. Standard input has them one after the other, each after an item that says the lengths of what is lent to it and its own.
 // Of each it prints a line: its number; what the call returned and counted; the record; a digest of each buffer, also past what was lent. Then the text, if it was accepted.
-mod digest;
-
-use digest::digest_bytes;
-use digest::digest_words;
 use stored::Item;
-ghost use Prim.Native.Nat.{_≤_};
-
-// A length, or the most that it may be.
-fn length(x: u32, most: usize) -> usize
-    ensures { λ k. ⌜ k ≤ most ⌝ }
-{
-    let k = x as usize;
-    if k < most { k } else { most }
-}
-
-// A number after a space.
-fn wide(x: u64) {
-    stored::bytes(b" ");
-    io::print_decimal(libc::STDOUT_FILENO, x);
-}
+use stored::digest_bytes;
+use stored::digest_words;
+use stored::length;
+use stored::wide;
 
 // What a call returned and counted, and the record.
 struct Done {
@@ -32,12 +17,7 @@ fn tell(d: Done) {
     let r = d.record;
     stored::word(d.row);
     wide(d.count);
-    stored::word(r[0]);
-    stored::word(r[1]);
-    stored::word(r[2]);
-    stored::word(r[3]);
-    stored::word(r[4]);
-    stored::word(r[5]);
+    stored::record(&r);
 }
 
 // The text of an accepted case.

@@ -24,7 +24,7 @@ fn truth(x: Item, words: &[u32], count: u32) -> bool
 // Where the text ends, and whether its buffer was full.
 fn tell(t: Text) {
     stored::bytes(b" at ");
-    io::print_decimal(libc::STDOUT_FILENO, t.at as u64);
+    stored::decimal(t.at as u64);
     stored::word(t.full as u32);
     stored::bytes(b"\n");
 }

@@ -7,15 +7,7 @@ use conditions::Store;
 use conditions::Table;
 use stored::Item;
 use stored::Words;
-ghost use Prim.Native.Nat.{_≤_};
-
-// A length, or the most that it may be.
-fn length(x: u32, most: usize) -> usize
-    ensures { λ k. ⌜ k ≤ most ⌝ }
-{
-    let k = x as usize;
-    if k < most { k } else { most }
-}
+use stored::length;
 
 // Whether the words and the count a are a store in standard form, and the operations on it if they are.
 fn begin(x: Item, words: &mut [u32]) {

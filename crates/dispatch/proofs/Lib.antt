@@ -1,1 +1,2 @@
 pub mod UnknownLaws
+pub mod OneLaws

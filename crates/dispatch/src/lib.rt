@@ -1,19 +1,22 @@
-// The kind byte selects the operation.
+// An access of a case, at its place in the file: the kind byte selects the operation.
 ghost use mathlib.Core.Path.{_≡_};
 ghost use mathlib.Core.Bool.{true};
+ghost use Prim.Native.Nat.{_+_, _*_, _≤_};
 ghost use lib.ListN.{length};
 ghost use Rattle.text.specs.Text.{out};
+ghost use Rattle.reading.specs.Bytes.{numbersAt};
 ghost use Rattle.reading.specs.Kinds.{isKnown, sizeOf};
 ghost use Rattle.memory.specs.Contract.{stateOf};
-ghost use Rattle.cases.specs.Case.{callOf, done};
-ghost use Rattle.entering.specs.Contract.{Ready, StepAs};
+ghost use Rattle.cases.specs.Case.{callOf, done, one};
+ghost use Rattle.entering.specs.Contract.{runningOf, Ready, StepAs};
 use conditions::Table;
 use entering::Run;
 use entering::Step;
+use reading::Access;
 use reading::Kind;
 
 // The access of a kind, with its nodes.
-pub fn do_access(
+fn do_access(
     kind: Kind,
     words: &mut [u32],
     list: &mut [u32],
@@ -31,5 +34,65 @@ pub fn do_access(
         Kind::Assert => entering::do_assert(words, list, table, buf, c, ops),
         Kind::Check => looking::do_check(words, list, table, buf, c, ops),
         Kind::Unknown => Step::Refused(11),
+    }
+}
+
+// An access whose nodes stand in the file from a byte on; the words for them are its own.
+fn read_access(
+    file: &[u8],
+    from: usize,
+    kind: Kind,
+    words: &mut [u32],
+    list: &mut [u32],
+    table: &mut Table,
+    buf: &mut [u8],
+    c: Run,
+    ops: &mut [u32],
+) -> Step
+    requires { ⌜ Ready (c .memory) (now words) (now list) (now table) × (isKnown kind ≡ true) × (length (now ops) ≡ sizeOf kind (c .memory .n) (c .memory .w)) × (from + 2 * length (now ops) ≤ length (now file)) ⌝ }
+    ensures { λ r. ⌜ StepAs r (now (words .exit)) (now (list .exit)) (now (buf .exit)) (now (table .exit)) (done (callOf kind (c .memory .n) (c .memory .w) (numbersAt (now (file .entry)) from (length (now (ops .entry))))) (stateOf (c .memory) (now (words .entry)) (now (list .entry))) (c .at) (out (now (buf .entry)) (c .text))) ⌝ }
+{
+    reading::read_numbers(file, from, ops);
+    do_access(kind, words, list, table, buf, c, ops)
+}
+
+// The access at the case's place.
+pub fn do_one(
+    file: &[u8],
+    words: &mut [u32],
+    list: &mut [u32],
+    table: &mut Table,
+    buf: &mut [u8],
+    c: Run,
+) -> Step
+    requires { ⌜ Ready (c .memory) (now words) (now list) (now table) ⌝ }
+    ensures { λ r. ⌜ StepAs r (now (words .exit)) (now (list .exit)) (now (buf .exit)) (now (table .exit)) (one (now (file .entry)) (runningOf c (now (words .entry)) (now (list .entry)) (now (buf .entry)))) ⌝ }
+{
+    let memory = c.memory;
+    let text = c.text;
+    let found = reading::access_at(file, c.at, memory.n, memory.w);
+    let access = found.access;
+    match access {
+        Access::Here { kind, from } => {
+            let size = reading::operands(kind, memory.n, memory.w);
+            let here = Run {
+                memory,
+                text,
+                at: found.at,
+            };
+            let mut ops: [u32; 50] = [0; 50];
+            read_access(
+                file,
+                from,
+                kind,
+                words,
+                list,
+                table,
+                buf,
+                here,
+                &mut ops[..size],
+            )
+        }
+        Access::Refused(k) => Step::Refused(k),
     }
 }

@@ -1,19 +1,11 @@
 // A call of the model on the buffers.
-use crate::lines;
 use called::Done;
 use stored::Item;
 use stored::Words;
-ghost use Prim.Native.Nat.{_≤_};
+use stored::changed;
+use stored::length;
 
-// A length, or the most that it may be.
-fn length(x: u32, most: usize) -> usize
-    ensures { λ k. ⌜ k ≤ most ⌝ }
-{
-    let k = x as usize;
-    if k < most { k } else { most }
-}
-
-// An access whose slices have the lengths that the item says; its c is the length of the enable, or b.
+// An access that is lent so many node words and list words.
 fn lend(
     x: Item,
     r: [u32; 6],
@@ -25,29 +17,7 @@ fn lend(
 ) -> Done {
     let m = length(x.a, nodes.len());
     let k = length(x.b, list.len());
-    let e = length(x.c, enable.len());
-    let a = length(x.d, address.len());
-    let d = length(x.e, data.len());
-    if x.kind < 3 {
-        return called::enabled(
-            x.kind,
-            r,
-            &mut nodes[..m],
-            &mut list[..k],
-            &enable[..e],
-            &address[..a],
-            &mut data[..d],
-        );
-    }
-    called::conditional(
-        x.kind,
-        r,
-        &mut nodes[..m],
-        &mut list[..k],
-        x.c,
-        &address[..a],
-        &data[..d],
-    )
+    called::access(x, r, &mut nodes[..m], &mut list[..k], enable, address, data)
 }
 
 // A call that is lent so many node words.
@@ -109,12 +79,15 @@ pub fn call(
     let old_list = *list;
     let old_data = *data;
     let done = repeat(x, r, nodes, list, enable, address, data);
-    lines::call(x.g, done.row, done.out);
+    stored::bytes(b"call");
+    stored::word(x.g);
+    stored::word(done.row);
+    stored::word(done.out);
     let record = done.record;
-    lines::record(&record);
-    lines::changed(b"; nodes ", &old_nodes, nodes);
-    lines::changed(b"; list ", &old_list, list);
-    lines::changed(b"; data ", &old_data, data);
+    stored::record(&record);
+    changed(b"; nodes ", &old_nodes, nodes);
+    changed(b"; list ", &old_list, list);
+    changed(b"; data ", &old_data, data);
     stored::bytes(b"\n");
     record
 }

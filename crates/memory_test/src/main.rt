@@ -1,7 +1,6 @@
 // Runs the stored calls. An item of the input is a record, words to put into a buffer, or a call on what they then hold.
 // A line for each call: its number, what it returned, its out-word, the record, and every word that it changed in a buffer, lent or not.
 mod calls;
-mod lines;
 
 use stored::Item;
 use stored::Words;

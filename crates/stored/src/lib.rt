@@ -1,4 +1,11 @@
-// The stored inputs of the test programs: items of eight numbers, each of four bytes, low byte first; and words of output.
+// The stored inputs of the test programs: items of eight numbers, each of four bytes, low byte first; and what they print.
+mod changes;
+mod digest;
+
+pub use changes::changed;
+pub use digest::digest_bytes;
+pub use digest::digest_words;
+ghost use Prim.Native.Nat.{_≤_};
 
 pub type Words = [u32; 49160];
 
@@ -53,12 +60,37 @@ pub fn put(x: Item, to: &mut Words) {
     }
 }
 
+// A length, or the most that it may be.
+pub fn length(x: u32, most: usize) -> usize
+    ensures { λ k. ⌜ k ≤ most ⌝ }
+{
+    let k = x as usize;
+    if k < most { k } else { most }
+}
+
 pub fn bytes(s: &[u8]) {
     io::write_all(libc::STDOUT_FILENO, s);
 }
 
+pub fn decimal(x: u64) {
+    io::print_decimal(libc::STDOUT_FILENO, x);
+}
+
 // A number after a space.
-pub fn word(x: u32) {
+pub fn wide(x: u64) {
     bytes(b" ");
-    io::print_decimal(libc::STDOUT_FILENO, x as u64);
+    decimal(x);
+}
+
+pub fn word(x: u32) {
+    wide(x as u64);
+}
+
+pub fn record(r: &[u32; 6]) {
+    word(r[0]);
+    word(r[1]);
+    word(r[2]);
+    word(r[3]);
+    word(r[4]);
+    word(r[5]);
 }

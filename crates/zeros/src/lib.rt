@@ -2,22 +2,22 @@
 ghost use mathlib.Core.Path.{_≡_};
 ghost use Rattle.cases.specs.Case.{zeroed};
 
-pub fn zero_words(to: &mut [u32])
-    ensures { λ _. ⌜ now (to .exit) ≡ zeroed (now (to .entry)) ⌝ }
+pub fn zero_words(words: &mut [u32])
+    ensures { λ _. ⌜ now (words .exit) ≡ zeroed (now (words .entry)) ⌝ }
 {
     let mut i: usize = 0;
-    while i < to.len() {
-        to[i] = 0;
+    while i < words.len() {
+        words[i] = 0;
         i += 1;
     }
 }
 
-pub fn zero_bytes(to: &mut [u8])
-    ensures { λ _. ⌜ now (to .exit) ≡ zeroed (now (to .entry)) ⌝ }
+pub fn zero_bytes(bytes: &mut [u8])
+    ensures { λ _. ⌜ now (bytes .exit) ≡ zeroed (now (bytes .entry)) ⌝ }
 {
     let mut i: usize = 0;
-    while i < to.len() {
-        to[i] = 0;
+    while i < bytes.len() {
+        bytes[i] = 0;
         i += 1;
     }
 }

@@ -9,19 +9,19 @@ use Rattle.zeros.proofs.zero_words.Statement.{statement}
 use Rattle.zeros.proofs.zero_words.Tie as tie
 
 abbrev Inv-loop : tie.InvT-loop
-Inv-loop to₀ i₀ to i = (i ≤ length to₀) × (length to ≡ length to₀) × (to ≡ zerosTo i to₀)
+Inv-loop words₀ i₀ words i = (i ≤ length words₀) × (length words ≡ length words₀) × (words ≡ zerosTo i words₀)
 
 abbrev μ-loop : tie.MeasureT-loop
-μ-loop to₀ i₀ to i = length to₀ - i
+μ-loop words₀ i₀ words i = length words₀ - i
 
 loop-holds : tie.Need-loop-holds Inv-loop μ-loop
-loop-holds c = (search needs, refl, zeros-none (now (c .args .to)))
+loop-holds c = (search needs, refl, zeros-none (now (c .args .words)))
 
-mul-to : tie.Need-mul-to Inv-loop μ-loop
-mul-to c = search needs
+mul-words : tie.Need-mul-words Inv-loop μ-loop
+mul-words c = search needs
 
-slice-write-to : tie.Need-slice-write-to Inv-loop μ-loop
-slice-write-to c = search needs
+slice-write-words : tie.Need-slice-write-words Inv-loop μ-loop
+slice-write-words c = search needs
 
 add-i : tie.Need-add-i Inv-loop μ-loop
 add-i c = search needs
@@ -30,13 +30,13 @@ loop-less : tie.Need-loop-less Inv-loop μ-loop
 loop-less c = search needs
 
 loop-again : tie.Need-loop-again Inv-loop μ-loop
-loop-again c = (search needs, simp length-set (omega arith), zeros-more (c .before .loop .i) (now (c .before .before .args .to)) (omega arith) (c .before .loop .inv .2))
+loop-again c = (search needs, simp length-set (omega arith), zeros-more (c .before .loop .i) (now (c .before .before .args .words)) (omega arith) (c .before .loop .inv .2))
 
 same-length : tie.Need-same-length Inv-loop μ-loop
 same-length c = search needs
 
 returns : tie.Need-returns Inv-loop μ-loop
-returns c = c .before .loop .inv .2 ∙ zeros-all (c .before .loop .i) (now (c .before .before .args .to)) (omega arith)
+returns c = c .before .loop .inv .2 ∙ zeros-all (c .before .loop .i) (now (c .before .before .args .words)) (omega arith)
 
 pub zero-words-spec : {M : Type 1} → statement M
 zero-words-spec =
@@ -45,8 +45,8 @@ zero-words-spec =
     Inv-loop
     μ-loop
     loop-holds
-    mul-to
-    slice-write-to
+    mul-words
+    slice-write-words
     add-i
     loop-less
     loop-again

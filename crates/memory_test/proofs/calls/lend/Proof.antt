@@ -10,41 +10,20 @@ length-requires c κs = search needs
 length-requires-2 : tie.Need-length-requires-2
 length-requires-2 c κs = search needs
 
-length-requires-3 : tie.Need-length-requires-3
-length-requires-3 c κs = search needs
+slice-relend-prefix-access : tie.Need-slice-relend-prefix-access
+slice-relend-prefix-access c = search needs
 
-length-requires-4 : tie.Need-length-requires-4
-length-requires-4 c κs = search needs
+slice-aggregate-access : tie.Need-slice-aggregate-access
+slice-aggregate-access c = simp length-take (omega arith)
 
-length-requires-5 : tie.Need-length-requires-5
-length-requires-5 c κs = search needs
+slice-relend-prefix-access-2 : tie.Need-slice-relend-prefix-access-2
+slice-relend-prefix-access-2 c = search needs
 
-slice-relend-prefix-enabled : tie.Need-slice-relend-prefix-enabled
-slice-relend-prefix-enabled c = search needs
+slice-aggregate-access-2 : tie.Need-slice-aggregate-access-2
+slice-aggregate-access-2 c = simp length-take (omega arith)
 
-slice-aggregate-enabled : tie.Need-slice-aggregate-enabled
-slice-aggregate-enabled c = simp length-take (omega arith)
-
-slice-relend-prefix-enabled-2 : tie.Need-slice-relend-prefix-enabled-2
-slice-relend-prefix-enabled-2 c = search needs
-
-slice-aggregate-enabled-2 : tie.Need-slice-aggregate-enabled-2
-slice-aggregate-enabled-2 c = simp length-take (omega arith)
-
-slice-aggregate-enabled-3 : tie.Need-slice-aggregate-enabled-3
-slice-aggregate-enabled-3 c = simp length-take (omega arith)
-
-slice-aggregate-enabled-4 : tie.Need-slice-aggregate-enabled-4
-slice-aggregate-enabled-4 c = simp length-take (omega arith)
-
-slice-relend-prefix-enabled-3 : tie.Need-slice-relend-prefix-enabled-3
-slice-relend-prefix-enabled-3 c = search needs
-
-slice-aggregate-enabled-5 : tie.Need-slice-aggregate-enabled-5
-slice-aggregate-enabled-5 c = simp length-take (omega arith)
-
-enabled-requires : tie.Need-enabled-requires
-enabled-requires c κs = search needs
+access-requires : tie.Need-access-requires
+access-requires c κs = search needs
 
 same-length : tie.Need-same-length
 same-length c = search needs
@@ -58,73 +37,18 @@ same-length-3 c = search needs
 returns : tie.Need-returns
 returns c = search needs
 
-slice-relend-prefix-conditional : tie.Need-slice-relend-prefix-conditional
-slice-relend-prefix-conditional c = search needs
-
-slice-aggregate-conditional : tie.Need-slice-aggregate-conditional
-slice-aggregate-conditional c = simp length-take (omega arith)
-
-slice-relend-prefix-conditional-2 : tie.Need-slice-relend-prefix-conditional-2
-slice-relend-prefix-conditional-2 c = search needs
-
-slice-aggregate-conditional-2 : tie.Need-slice-aggregate-conditional-2
-slice-aggregate-conditional-2 c = simp length-take (omega arith)
-
-slice-aggregate-conditional-3 : tie.Need-slice-aggregate-conditional-3
-slice-aggregate-conditional-3 c = simp length-take (omega arith)
-
-slice-reshare-prefix-conditional : tie.Need-slice-reshare-prefix-conditional
-slice-reshare-prefix-conditional c = search needs
-
-slice-aggregate-conditional-4 : tie.Need-slice-aggregate-conditional-4
-slice-aggregate-conditional-4 c = simp length-take (omega arith)
-
-conditional-requires : tie.Need-conditional-requires
-conditional-requires c κs = search needs
-
-same-length-4 : tie.Need-same-length-4
-same-length-4 c = search needs
-
-same-length-5 : tie.Need-same-length-5
-same-length-5 c = search needs
-
-same-length-6 : tie.Need-same-length-6
-same-length-6 c = search needs
-
-returns-2 : tie.Need-returns-2
-returns-2 c = search needs
-
 pub lend-spec : {M : Type 1} → statement M
 lend-spec =
     tie.close
     (tie.spec
     length-requires
     length-requires-2
-    length-requires-3
-    length-requires-4
-    length-requires-5
-    slice-relend-prefix-enabled
-    slice-aggregate-enabled
-    slice-relend-prefix-enabled-2
-    slice-aggregate-enabled-2
-    slice-aggregate-enabled-3
-    slice-aggregate-enabled-4
-    slice-relend-prefix-enabled-3
-    slice-aggregate-enabled-5
-    enabled-requires
+    slice-relend-prefix-access
+    slice-aggregate-access
+    slice-relend-prefix-access-2
+    slice-aggregate-access-2
+    access-requires
     same-length
     same-length-2
     same-length-3
-    returns
-    slice-relend-prefix-conditional
-    slice-aggregate-conditional
-    slice-relend-prefix-conditional-2
-    slice-aggregate-conditional-2
-    slice-aggregate-conditional-3
-    slice-reshare-prefix-conditional
-    slice-aggregate-conditional-4
-    conditional-requires
-    same-length-4
-    same-length-5
-    same-length-6
-    returns-2)
+    returns)

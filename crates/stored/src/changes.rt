@@ -1,24 +1,8 @@
-// What a call left, on a line.
-use stored::Words;
-use stored::bytes;
-use stored::word;
-
-// A call's number, what it returned and its out-word.
-pub fn call(number: u32, row: u32, out: u32) {
-    bytes(b"call");
-    word(number);
-    word(row);
-    word(out);
-}
-
-pub fn record(r: &[u32; 6]) {
-    word(r[0]);
-    word(r[1]);
-    word(r[2]);
-    word(r[3]);
-    word(r[4]);
-    word(r[5]);
-}
+// What a call changed in a buffer.
+use crate::Words;
+use crate::bytes;
+use crate::decimal;
+use crate::word;
 
 // A word that was changed, after the buffer's name and the place where the word before it was not. Whether it was changed.
 fn show(name: &[u8], i: usize, old: u32, new: u32, before: bool) -> bool {
@@ -27,7 +11,7 @@ fn show(name: &[u8], i: usize, old: u32, new: u32, before: bool) -> bool {
     }
     if !before {
         bytes(name);
-        io::print_decimal(libc::STDOUT_FILENO, i as u64);
+        decimal(i as u64);
         bytes(b":");
     }
     word(new);

@@ -1,8 +1,8 @@
 use borrow.Author.Needs.{needs}
 use lib.ListN.{length}
 use Prim.Native.Nat.{_-_}
-use Rattle.cases_test.proofs.digest.digest_bytes.Statement.{statement}
-use Rattle.cases_test.proofs.digest.digest_bytes.Tie as tie
+use Rattle.stored.proofs.digest.digest_bytes.Statement.{statement}
+use Rattle.stored.proofs.digest.digest_bytes.Tie as tie
 
 abbrev Inv-loop : tie.InvT-loop
 Inv-loop s digest₀ i₀ digest i = Unit {0}

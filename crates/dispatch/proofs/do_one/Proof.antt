@@ -1,4 +1,4 @@
-use Rattle.casefile.proofs.RestLaws.{step-here, one-missing}
+use Rattle.dispatch.proofs.OneLaws.{step-here, one-missing}
 use Rattle.reading.proofs.AccessLaws.{access-here}
 use Rattle.reading.proofs.KindLaws.{size-most}
 use Rattle.rows.proofs.CallLaws.{valid-few}
@@ -6,8 +6,8 @@ use lib.ListN.{length-take}
 use native.Mathlib.Omega.{arith}
 use denote.Ref.{now}
 use borrow.Author.Needs.{needs}
-use Rattle.casefile.proofs.accesses.do_one.Statement.{statement}
-use Rattle.casefile.proofs.accesses.do_one.Tie as tie
+use Rattle.dispatch.proofs.do_one.Statement.{statement}
+use Rattle.dispatch.proofs.do_one.Tie as tie
 
 access-at-requires : tie.Need-access-at-requires
 access-at-requires c κs = search needs

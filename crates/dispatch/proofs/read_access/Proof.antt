@@ -1,6 +1,6 @@
 use borrow.Author.Needs.{needs}
-use Rattle.casefile.proofs.accesses.read_access.Statement.{statement}
-use Rattle.casefile.proofs.accesses.read_access.Tie as tie
+use Rattle.dispatch.proofs.read_access.Statement.{statement}
+use Rattle.dispatch.proofs.read_access.Tie as tie
 
 read-numbers-requires : tie.Need-read-numbers-requires
 read-numbers-requires c κs = search needs

@@ -1,7 +1,7 @@
 use borrow.Author.Needs.{needs}
 use Prim.Native.Nat.{_-_}
-use Rattle.memory_test.proofs.lines.changed.Statement.{statement}
-use Rattle.memory_test.proofs.lines.changed.Tie as tie
+use Rattle.stored.proofs.changes.changed.Statement.{statement}
+use Rattle.stored.proofs.changes.changed.Tie as tie
 
 abbrev Inv-loop : tie.InvT-loop
 Inv-loop name old new before₀ i₀ before i = Unit {0}
