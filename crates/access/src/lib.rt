@@ -8,8 +8,8 @@ ghost use Rattle.access.specs.Contract.{Nodes, WordDid, MarksDid, shape,
 use conditions::Built;
 use conditions::Store;
 use conditions::Table;
-use lookup::DataNode;
 pub use lookup::look;
+use merging::DataNode;
 
 // A node number of the control domain.
 pub struct ControlNode(pub u32);

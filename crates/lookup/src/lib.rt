@@ -1,68 +1,16 @@
 // Look, over a store, a list and an address that are already tested.
 ghost use mathlib.Core.Path.{_≡_};
-ghost use Prim.Native.Nat.{_+_, _*_, _<_, _≤_};
-ghost use lib.ListN.{length, replicate, getD};
+ghost use Prim.Native.Nat.{_*_, _<_};
+ghost use lib.ListN.{length, replicate};
 ghost use Rattle.conditions.specs.Contract.{Sound, Did};
 ghost use Rattle.conditions.specs.Build.{forEach};
 ghost use Rattle.model.specs.Record.{entryAt};
-ghost use Rattle.model.specs.Access.{EachHalf, mergeHalf, entryStep, settleHalf, Look};
+ghost use Rattle.model.specs.Access.{EachHalf, entryStep, settleHalf, Look};
 ghost use Rattle.addresses.specs.Contract.{Nodes, WordDid, shape, Looks};
 use conditions::Built;
 use conditions::Store;
 use conditions::Table;
-
-// A node number of the data domain.
-pub struct DataNode(pub u32);
-
-// Ite(hm, e, Ite(sm, Or(e, r), r))
-fn merge_half(
-    words: &mut [u32],
-    table: &mut Table,
-    s: Store,
-    hm: u32,
-    sm: u32,
-    e: DataNode,
-    r: DataNode,
-) -> Built
-    requires { ⌜ Sound (now words) (now table) s × (hm < s .count) × (sm < s .count) × (e .0 < s .count) × (r .0 < s .count) ⌝ }
-    ensures { λ b. ⌜ Did s (now (words .exit)) (now (table .exit)) b (mergeHalf hm sm (e .0) (r .0) (now (words .entry)) s) ⌝ }
-{
-    let x = conditions::or(words, table, s, e.0, r.0);
-    let y = conditions::ite(words, table, x.store, sm, x.node, r.0);
-    conditions::ite(words, table, y.store, hm, e.0, y.node)
-}
-
-// Each half of a word takes in the half of an entry's data.
-fn merge(
-    words: &mut [u32],
-    table: &mut Table,
-    s: Store,
-    hm: u32,
-    sm: u32,
-    data: &[u32],
-    word: &mut [u32],
-) -> Store
-    requires { ⌜ Sound (now words) (now table) s × (hm < s .count) × (sm < s .count) × (length (now «data») ≡ length (now word)) × Nodes (s .count) (now «data») × Nodes (s .count) (now word) ⌝ }
-    ensures { λ u. ⌜ WordDid s (now (words .exit)) (now (table .exit)) u (now (word .exit)) (EachHalf (λ k. mergeHalf hm sm (getD (now («data» .entry)) k 0)) (length (now (word .entry))) (now (word .entry)) (now (words .entry)) s) ⌝ }
-{
-    let mut u = s;
-    let mut k = 0;
-    while k < word.len() {
-        let b = merge_half(
-            words,
-            table,
-            u,
-            hm,
-            sm,
-            DataNode(data[k]),
-            DataNode(word[k]),
-        );
-        u = b.store;
-        word[k] = b.node;
-        k += 1;
-    }
-    u
-}
+use merging::DataNode;
 
 // Any(And(inside, r))
 fn settle_half(words: &mut [u32], table: &mut Table, s: Store, inside: u32, r: DataNode) -> Built
@@ -100,36 +48,6 @@ fn fill(word: &mut [u32])
     }
 }
 
-// What an entry makes of a word.
-fn look_entry(
-    words: &mut [u32],
-    table: &mut Table,
-    s: Store,
-    n: usize,
-    w: usize,
-    inside: u32,
-    entry: &[u32],
-    word: &mut [u32],
-) -> Store
-    requires { ⌜ Sound (now words) (now table) s × (n ≤ 8) × (w ≤ 16) × (length (now entry) ≡ 2 + 2 * n + 2 * w) × (length (now word) ≡ 2 * w) × Nodes (s .count) (now entry) × Nodes (s .count) (now word) × (inside < s .count) ⌝ }
-    ensures { λ u. ⌜ WordDid s (now (words .exit)) (now (table .exit)) u (now (word .exit)) (entryStep (shape n w 0) inside (now (entry .entry)) (now (word .entry)) (now (words .entry)) s) ⌝ }
-{
-    let at = 2 + 2 * n;
-    let end = at + 2 * w;
-    let m = addresses::narrow(words, table, s, n, &entry[2..at], inside);
-    let hm = conditions::and(words, table, m.store, m.node, entry[0]);
-    let sm = conditions::and(words, table, hm.store, m.node, entry[1]);
-    merge(
-        words,
-        table,
-        sm.store,
-        hm.node,
-        sm.node,
-        &entry[at..end],
-        word,
-    )
-}
-
 // What the entries make of a word, oldest first.
 fn scan(
     words: &mut [u32],
@@ -152,7 +70,7 @@ fn scan(
     while j < entries {
         let at = j * size;
         let end = at + size;
-        u = look_entry(words, table, u, n, w, inside, &list[at..end], word);
+        u = merging::look_entry(words, table, u, n, w, inside, &list[at..end], word);
         j += 1;
     }
     u

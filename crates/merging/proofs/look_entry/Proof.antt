@@ -5,8 +5,8 @@ use Rattle.conditions.proofs.Promises.{next-is}
 use Rattle.model.specs.Access.{entryStep}
 use Rattle.addresses.proofs.LoopLaws.{more-nodes, part-length, part-nodes}
 use borrow.Author.Needs.{needs}
-use Rattle.lookup.proofs.look_entry.Statement.{statement}
-use Rattle.lookup.proofs.look_entry.Tie as tie
+use Rattle.merging.proofs.look_entry.Statement.{statement}
+use Rattle.merging.proofs.look_entry.Tie as tie
 
 mul-at : tie.Need-mul-at
 mul-at c = search needs

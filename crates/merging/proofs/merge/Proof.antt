@@ -3,8 +3,8 @@ use native.Mathlib.Omega.{arith}
 use lib.ListN.{length, getD}
 use Rattle.model.specs.Access.{halfStep, EachHalf, mergeHalf}
 use Rattle.addresses.proofs.LoopLaws.{WordLoop, word-begins, word-did, half-goes-on}
-use Rattle.lookup.proofs.merge.Statement.{statement}
-use Rattle.lookup.proofs.merge.Tie as tie
+use Rattle.merging.proofs.merge.Statement.{statement}
+use Rattle.merging.proofs.merge.Tie as tie
 
 abbrev Inv-loop : tie.InvT-loop
 Inv-loop words₀ table₀ hm sm «data» word₀ u₀ k₀ words table word u k = WordLoop (halfStep (λ j. mergeHalf hm sm (getD «data» j 0))) (length word₀) word₀ words₀ u₀ word words table u k

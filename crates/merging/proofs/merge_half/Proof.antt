@@ -1,8 +1,8 @@
 use Rattle.model.specs.Access.{mergeHalf}
 use Rattle.addresses.proofs.LoopLaws.{then-did}
 use borrow.Author.Needs.{needs}
-use Rattle.lookup.proofs.merge_half.Statement.{statement}
-use Rattle.lookup.proofs.merge_half.Tie as tie
+use Rattle.merging.proofs.merge_half.Statement.{statement}
+use Rattle.merging.proofs.merge_half.Tie as tie
 
 or-requires : tie.Need-or-requires
 or-requires c κs = search needs
