@@ -149,6 +149,16 @@ grown s w c = withRecord (withWords s w) (withCount (s .rec) c)
 abbrev pub withEntry : State → Marks → List ℕ → List ℕ → State
 withEntry s m a d = withList (withRecord s (withEntries (s .rec) (s .rec .entries + 1))) (appended (s .rec) (s .list) (m .hard) (m .soft) a d)
 
+-- an entry to be entered: its h and s, address and data; and entries, one after the other
+pub record NewEntry : Type 0 where
+  pub marks : Marks
+  pub address : List ℕ
+  pub word : List ℕ
+
+abbrev pub withNew : State → List NewEntry → State
+withNew s [] = s
+withNew s (e ∷ es) = withNew (withEntry s (e .marks) (e .address) (e .word)) es
+
 -- with another assert condition, another check condition
 abbrev pub withAssertCondition : State → ℕ → State
 withAssertCondition s v = withRecord s (withAsserted (s .rec) v)
@@ -165,12 +175,12 @@ unfoldable pub enter : State → ℕ → List ℕ → List ℕ → AssertBuilt �
 enter s b a d q w c =
     cond (eqb (q .keep) 1) (gives kept (withAssertCondition (grown s w c) (q .condition)))
     (cond (row8 (s .rec) (s .words) (s .list))
-    (unlessFull (Write (s .rec .n) b (q .notB) a w (record { count = c; full = false })) (λ m w c. gives entered (withEntry (withAssertCondition (grown s w c) (q .condition)) m a d)))
+    (unlessFull (Write (s .rec .n) b (q .notB) a w (record { count = c; full = false })) (λ m w c. gives entered (withNew (withAssertCondition (grown s w c) (q .condition)) (record { marks = m; address = a; word = d } ∷ []))))
     short)
 
 -- a call that no row refuses: its program, and what it gives and leaves
 unfoldable pub finishAccess : Access → State → Finish
-finishAccess (write c a d) s = unlessFull (Write (s .rec .n) (getD c 0 0) (getD c 1 0) a (s .words) (begin (s .rec))) (λ m w k. gives (place (s .rec .entries)) (withEntry (grown s w k) m a d))
+finishAccess (write c a d) s = unlessFull (Write (s .rec .n) (getD c 0 0) (getD c 1 0) a (s .words) (begin (s .rec))) (λ m w k. gives (place (s .rec .entries)) (withNew (grown s w k) (record { marks = m; address = a; word = d } ∷ [])))
 finishAccess (read e a out) s = unlessFull (Read (s .rec) (s .list) (getD e 0 0) (getD e 1 0) a (s .words) (begin (s .rec))) (λ r w k. gives (filled r) (grown s w k))
 finishAccess (assert b a d) s = unlessFull (assertFirst b a d s) (enter s b a d)
 finishAccess (check b a d) s = unlessFull (Check (s .rec) (s .list) b a d (s .words) (begin (s .rec))) (λ v w k. gives accepted (withCheckCondition (grown s w k) v))
