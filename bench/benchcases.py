@@ -17,7 +17,7 @@ from casefile import CaseFile, ONE, X, ZERO, number_bits  # noqa: E402
 from derivedcases import OneAssignment, many_variables  # noqa: E402
 from limitcases import wide_symbolic  # noqa: E402
 from randomcases import Random  # noqa: E402
-from calls import READ  # noqa: E402
+from calls import PORTS, READ  # noqa: E402
 from reference import LIST_WORDS  # noqa: E402
 
 USER = 8
@@ -196,6 +196,15 @@ def writes_and_reads(writes, reads):
     return case
 
 
+def held_reads(count):
+    """Reads by each port in turn, under each enable in turn, so that held words are read again and joined."""
+    case = full_list(4, 4, narrow_address, lambda case, number: number_bits(number % 4, 4), entries=64)
+    enables = [ONE, ZERO, X, case.bit(8), (case.variable(9), 1)]
+    for number in range(count):
+        case.read(enables[number % len(enables)], narrow_address(case, number), number % PORTS)
+    return case
+
+
 def read_benches(maker):
     kind = "many reads"
     case = full_list(8, 16, constant_address, constant_data)
@@ -208,6 +217,8 @@ def read_benches(maker):
         case.read(ONE, narrow_address(case, number))
     yield maker.bench(kind, "choices-600-reads", case,
                       "600 reads of 64 entries at n=4, w=8, addresses by two variables")
+    yield maker.bench(kind, "held-600-reads", held_reads(600),
+                      "600 reads of 64 entries at n=4, w=4 by four ports, enables 1, 0, X and variables")
     count, case = fullest(maker, lambda count: dense_case(8, 2, 2, 8, (ONE, ZERO, X), count, reads=300))
     yield maker.bench(kind, "dense-300-reads", case,
                       "300 reads of %d entries at n=2, w=2, dense conditions of 8 variables, nearly full" % (count + 4))
@@ -331,13 +342,13 @@ def not_at(case, modulus, steps, start, target):
 
 
 def counters(modulus):
-    """A read whose enable is two counters that are never both at 0, for all their steps are odd and one began at 1:
+    """A write whose data is two counters that are never both at 0, for all their steps are odd and one began at 1:
     a pair that is legal everywhere, which shows in many pairs of nodes alone."""
     rng = Random(modulus)
     case = CaseFile()
     first, second = (not_at(case, modulus, [2 * rng.below(modulus // 2) + 1 for _ in PARITY], start, 0)
                      for start in (0, 1))
-    case.read((first, second), [ZERO])
+    case.write(ONE, [ZERO], [(first, second)])
     return case
 
 
@@ -367,7 +378,7 @@ def must_be_fast(maker):
     data = nodes.with_access(lambda case: case.write(ONE, [neither], [ONE]))
     yield Bench(kind, "one-of-2-56", data, "a pair that is illegal only under one of 2^56 assignments (6)")
     yield Bench(kind, "counters-24", counters(24).bytes(),
-                "an enable of two counters modulo 24 over 56 variables, legal everywhere")
+                "a data bit of two counters modulo 24 over 56 variables, legal everywhere")
     yield Bench(kind, "file-5461", file_of_nodes(5459).bytes(), "a store of 5,461 nodes from a file")
     yield Bench(kind, "2730-writes", full_list(1, 1, constant_address, constant_data).bytes(), "2,730 writes")
     yield Bench(kind, "1300-and-1300", writes_and_reads(1300, 1300).bytes(), "1,300 writes and 1,300 reads")

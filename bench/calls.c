@@ -8,7 +8,7 @@
 #define MOST 16384
 #define LIST 65536
 
-static uint32_t nodes[3 * MOST], list[LIST], record[MD_RECORD];
+static uint32_t nodes[3 * MOST], list[LIST], record[MD_RECORD], ports[MD_PORTS];
 
 static double now(void)
 {
@@ -28,7 +28,7 @@ static void put(uint32_t k, uint32_t v, uint32_t low, uint32_t high)
 static void fill(uint32_t count)
 {
     uint32_t v = 63, below = 2, low = 0, high = 1, on = 0, k = 2;
-    md_fresh(record, 1, 1, nodes, 3 * MOST);
+    md_fresh(record, 1, 1, nodes, 3 * MOST, ports);
     while (k < count) {
         if (low != high) {
             put(k++, v, low, high);
@@ -61,7 +61,7 @@ static uint32_t call(enum call which, uint32_t count)
     case WRITE:
         record[MD_ENTRIES] = 0;
         return md_write(record, nodes, 3 * MOST, list, LIST, one, 2, one, 2, one, 2, &out);
-    default: return md_read(record, nodes, 3 * MOST, list, LIST, one, 2, one, 2, answer, 2);
+    default: return md_read(record, nodes, 3 * MOST, list, LIST, ports, 0, one, 2, one, 2, answer, 2);
     }
 }
 

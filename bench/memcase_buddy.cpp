@@ -32,6 +32,7 @@ constexpr size_t kTextBytes = 65536;
 constexpr int kListWords = 16384;
 constexpr int kEntryLimit = 4096;
 constexpr int kNodeCapacity = 16384 / 3;
+constexpr int kPorts = 4;
 constexpr int kUserVariable = 8;
 constexpr int kVariables = 64;
 
@@ -153,6 +154,7 @@ class Memory {
     entry_capacity_ = capacity < kEntryLimit ? capacity : kEntryLimit;
     assert_condition = bddtrue;
     check_condition = bddtrue;
+    for (std::vector<Pair>& port : ports_) port.assign(w, Pair{bddtrue, bddtrue});
   }
 
   bdd assert_condition, check_condition;
@@ -165,14 +167,16 @@ class Memory {
     return entries_.size() - 1;
   }
 
-  std::vector<Pair> read(const Pair& control, const std::vector<Pair>& address) {
-    std::vector<Pair> r = look(address);
-    const bdd enabled = c_.and_(control.h, c_.not_(control.l));
-    for (Pair& bit : r) {
-      bit.h = c_.ite(enabled, bit.h, bddtrue);
-      bit.l = c_.ite(enabled, bit.l, bddtrue);
+  // The look, the port's word or the union of both; it becomes the port's.
+  const std::vector<Pair>& read(int port, const Pair& control, const std::vector<Pair>& address) {
+    const std::vector<Pair> r = look(address);
+    const bdd unknown = c_.and_(control.h, control.l);
+    std::vector<Pair>& held = ports_[port];
+    for (int i = 0; i < w_; ++i) {
+      held[i].h = chosen(unknown, control.h, r[i].h, held[i].h);
+      held[i].l = chosen(unknown, control.h, r[i].l, held[i].l);
     }
-    return r;
+    return held;
   }
 
   void check(const bdd& b, const std::vector<Pair>& address, const std::vector<Pair>& data) {
@@ -218,6 +222,10 @@ class Memory {
     return c_.ite(hm, e, c_.ite(sm, c_.or_(e, r), r));
   }
 
+  bdd chosen(const bdd& unknown, const bdd& enable, const bdd& r, const bdd& p) {
+    return c_.ite(c_.ite(unknown, r, enable), r, p);
+  }
+
   std::vector<Pair> look(const std::vector<Pair>& address) {
     const bdd in = narrow(bddtrue, address);
     std::vector<Pair> r(w_, Pair{bddtrue, bddtrue});
@@ -253,6 +261,7 @@ class Memory {
   Conditions& c_;
   int entry_capacity_;
   std::vector<Entry> entries_;
+  std::vector<Pair> ports_[kPorts];
 };
 
 // The bytes of a case file and a position in them.
@@ -381,8 +390,11 @@ class Case {
     const int kind = reader_.byte();
     if (kind < kWrite || kind > kCheck) refuse(11);
     const bool enabled = kind == kWrite || kind == kRead;
+    const int port_bytes = kind == kRead ? 1 : 0;
     const int data_bits = kind == kRead ? 0 : w_;
-    reader_.need(2 * ((enabled ? 2 : 1) + 2 * n_ + 2 * data_bits));
+    reader_.need(port_bytes + 2 * ((enabled ? 2 : 1) + 2 * n_ + 2 * data_bits));
+    const int port = port_bytes ? reader_.byte() : 0;
+    if (port >= kPorts) refuse(14);
     Pair control;
     control.h = condition();
     if (enabled) control.l = condition();
@@ -401,7 +413,7 @@ class Case {
         text_.put("write " + std::to_string(memory.write(control, address, data)) + "\n");
         break;
       case kRead: {
-        const std::vector<Pair> word = memory.read(control, address);
+        const std::vector<Pair>& word = memory.read(port, control, address);
         text_.put("read", 4);
         for (int i = w_ - 1; i >= 0; --i) {
           text_.put(" ", 1);

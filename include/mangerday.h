@@ -8,11 +8,16 @@
  * pair, two words. The memory is the record, the node words and the list words together; they go
  * from call to call as the last call left them.
  *
+ * There are four read ports, 0 to 3. Each holds the word that was read by it last, w pairs in the
+ * first 2w of its own 32 words: MD_PORTS words in all, which go from call to call as the list does.
+ * md_fresh begins them, md_read reads and replaces one, and no other call sees them.
+ *
  * Every call answers 0, accepted, or the number of the row that refuses it:
  *
  *    1  n or w outside its range
  *    2  fewer than 6 node words, node count under 2 or over capacity, nodes not in standard form
- *    3  entry count over the list's capacity; an entry word or record condition that 5 would refuse
+ *    3  entry count over the list's capacity; an entry word, a record condition or, in a read, a held
+ *       word of any port that 5 would refuse
  *    4  a slice not exactly 2n or 2w words, an enable not 2
  *    5  an access's or Ite's node not below the count or on an index variable;
  *       evaluate: not below the count; variable not 8 to 63
@@ -24,13 +29,16 @@
  *   11  unknown kind of access
  *   12  bytes after the last access
  *   13  text too long for its buffer
+ *   14  read: port above 3
  *
- * The least number is answered, but for 8 in an assert, which comes after a 9 that is met before its
- * entry is needed; and md_case answers the number of what it meets first in the file, whatever comes
- * later. A refused call, but for md_case, leaves the record, the nodes below the count, the list, the
- * answer words and the out-word as they were; after 9, and after 8 in an assert, the node words from
- * the count to capacity are 0. An accepted call changes no older node or entry and no word past the
- * new counts. Any words may be lent: what is no memory is refused, by row 1, 2 or 3.
+ * A call tests its rows in the order listed for it, and answers the first that it meets; but an assert
+ * meets 8 when its entry is needed, so that a 9 met before it wins; and md_case answers the number of
+ * what it meets first in the file, whatever comes later. A refused call, but for md_case, leaves the
+ * record, the nodes below the count, the list, the ports, the answer words and the out-word as they
+ * were; after 9, and after 8 in an assert, the node words from the count to capacity are 0. An accepted
+ * call changes no older node or entry, no word past the new counts, and of the ports nothing but the
+ * held word of the port that it reads, or by md_fresh all. Any words may be lent: what is no memory is
+ * refused, by row 1, 2 or 3.
  *
  * Node capacity is the words divided by 3, rounded down, at most 16,384. List capacity is whole
  * entries of 2 + 2n + 2w words, at most 4,096.
@@ -38,7 +46,7 @@
  * What a caller must see to:
  *  - A pointer is not null and is aligned for its type, also where the length beside it is 0.
  *  - What a call is lent does not overlap, but that two slices or records that it only reads may.
- *  - Node, list, text and answer words are initialized memory before they are lent: any content will do.
+ *  - Node, list, port, text and answer words are initialized memory before they are lent: any content will do.
  *  - MD_STACK bytes of stack are free. (The calls use no heap.)
  * Nothing is kept between calls and nothing is global: threads may call at once, each on its own buffers.
  */
@@ -58,52 +66,60 @@ extern "C" {
 /* The record is six words: n, w, node count, entry count, assert condition, check condition. */
 enum { MD_N, MD_W, MD_NODES, MD_ENTRIES, MD_ASSERTED, MD_CHECKED, MD_RECORD };
 
-/* A memory of n address bits (1 to 8) and w data bits (1 to 16): counts 2 and 0, both conditions 1,
-   and nodes 0 and 1 written into the node words, which are at least 6. Meets 1 and 2. */
-uint32_t md_fresh(uint32_t record[MD_RECORD], uint32_t n, uint32_t w, uint32_t *nodes, size_t nodes_length);
+/* The words of the four ports. */
+#define MD_PORTS 128
 
-/* The value, 0 or 1, of a node under an assignment, in which bit v is variable v. Meets 1, 2 and 5. */
+/* A memory of n address bits (1 to 8) and w data bits (1 to 16): counts 2 and 0, both conditions 1,
+   nodes 0 and 1 written into the node words, which are at least 6, and every word of the ports node 1,
+   so that each holds X. Meets 1, 2. */
+uint32_t md_fresh(uint32_t record[MD_RECORD], uint32_t n, uint32_t w, uint32_t *nodes, size_t nodes_length,
+                  uint32_t ports[MD_PORTS]);
+
+/* The value, 0 or 1, of a node under an assignment, in which bit v is variable v. Meets 1, 2, 5. */
 uint32_t md_evaluate(const uint32_t record[MD_RECORD], const uint32_t *nodes, size_t nodes_length, uint32_t node,
                      uint64_t assignment, uint32_t *value);
 
-/* The node of a user variable, 8 to 63: it holds where the variable is 1. Meets 1, 2, 5 and 9. */
+/* The node of a user variable, 8 to 63: it holds where the variable is 1. Meets 1, 2, 5, 9. */
 uint32_t md_variable(uint32_t record[MD_RECORD], uint32_t *nodes, size_t nodes_length, uint32_t variable,
                      uint32_t *node);
 
 /* The node that is g where f holds and h elsewhere. Not f is (f, 0, 1), f and g is (f, g, 0), f or g
-   is (f, 1, g). Two conditions that agree under every assignment are one node. Meets 1, 2, 5 and 9. */
+   is (f, 1, g). Two conditions that agree under every assignment are one node. Meets 1, 2, 5, 9. */
 uint32_t md_ite(uint32_t record[MD_RECORD], uint32_t *nodes, size_t nodes_length, uint32_t f, uint32_t g, uint32_t h,
                 uint32_t *node);
 
 /* A write under an enable pair: appends an entry to the list and answers its place, counted from 0.
-   An enable or an address that is X makes an entry that may or may not hold. Meets 1 to 6, 8 and 9. */
+   An enable or an address that is X makes an entry that may or may not hold. Meets 1, 2, 3, 4, 5, 6, 8, 9. */
 uint32_t md_write(uint32_t record[MD_RECORD], uint32_t *nodes, size_t nodes_length, uint32_t *list, size_t list_length,
                   const uint32_t *enable, size_t enable_length, const uint32_t *address, size_t address_length,
                   const uint32_t *data, size_t data_length, uint32_t *place);
 
-/* A read under an enable pair: fills 2w answer words, each bit's h before its l. Where the memory is
-   what calls left of md_fresh's, or of a case, they say exactly what plain memories may return; an
-   enable that is not certainly 1 gives all X. Meets 1 to 6 and 9. */
+/* A read by a port under an enable pair: fills 2w answer words, each bit's h before its l, with the word
+   at the address where the enable is 1, with the word that the port holds where it is 0, and where it is
+   X with what either may be, bit by bit. Then the port holds them. Where memory and ports are what calls
+   left of md_fresh's, they say exactly what plain memories may return. Meets 1, 2, 3, 4, 14, 5, 6, 9. */
 uint32_t md_read(uint32_t record[MD_RECORD], uint32_t *nodes, size_t nodes_length, const uint32_t *list,
-                 size_t list_length, const uint32_t *enable, size_t enable_length, const uint32_t *address,
-                 size_t address_length, uint32_t *answer, size_t answer_length);
+                 size_t list_length, uint32_t ports[MD_PORTS], uint32_t port, const uint32_t *enable,
+                 size_t enable_length, const uint32_t *address, size_t address_length, uint32_t *answer,
+                 size_t answer_length);
 
 /* Where the condition b holds, the word at the address is assumed to be admitted by the data: the
    assert condition is narrowed to where the data lies inside what the memory admits, and the data is
-   entered (entered is 1), unless that would change nothing (kept: 0). Meets 1 to 9. */
+   entered (entered is 1), unless that would change nothing (kept: 0). Meets 1, 2, 3, 4, 5, 6, 7, 8, 9. */
 uint32_t md_assert(uint32_t record[MD_RECORD], uint32_t *nodes, size_t nodes_length, uint32_t *list,
                    size_t list_length, uint32_t b, const uint32_t *address, size_t address_length,
                    const uint32_t *data, size_t data_length, uint32_t *entered);
 
 /* Where the condition b holds, the word at the address must be admitted by the data: the check
-   condition is narrowed to where it always is. Meets 1 to 6 and 9. */
+   condition is narrowed to where it always is. Meets 1, 2, 3, 4, 5, 6, 9. */
 uint32_t md_check(uint32_t record[MD_RECORD], uint32_t *nodes, size_t nodes_length, const uint32_t *list,
                   size_t list_length, uint32_t b, const uint32_t *address, size_t address_length,
                   const uint32_t *data, size_t data_length);
 
-/* A case file, run from its first byte to its last. Accepted: the text is written, count is its
-   length, record the last record. Refused (any row but 3 and 4): count is the number of accesses
-   already printed, node, list and text words are all 0, and the record is as it was. */
+/* A case file, run from its first byte to its last, with ports of its own that hold X at first. Accepted:
+   the text is written, count is its length, record the last record. Refused (any row but 3 and 4): count
+   is the number of accesses already printed, node, list and text words are all 0, and the record is as it
+   was. */
 uint32_t md_case(const uint8_t *bytes, size_t bytes_length, uint32_t *nodes, size_t nodes_length, uint32_t *list,
                  size_t list_length, uint8_t *text, size_t text_length, uint32_t record[MD_RECORD], uint64_t *count);
 

@@ -1,31 +1,16 @@
 """Calls as a stored input, and what a program that runs them must print.
 
-The input has items of eight numbers of four bytes, low byte first.  There are five buffers of
-49,160 words, zeros at first: nodes, list, control, address, data.
-
-    9 BUFFER PLACE MANY STRIDE VALUE STEP 0     put MANY words from PLACE on: the first is VALUE,
-                                                each next stands STRIDE places on and is more by STEP
-    10 N W NODES ENTRIES ASSERT CHECK 0         the record
-    1 to 4, NODES LIST C ADDRESS DATA TIMES I   write, read, assert, check on the first NODES words of
-                                                nodes and so on; C is the enable's length, or b
-    5 to 8, NODES A B C 0 TIMES I               fresh n w; evaluate a node under an assignment, its lower
-                                                half first; variable v; ite f g h
-
-A call is run TIMES times, each from where the last left off, and the record goes from call to call.
-The out-word is 7 before a call.
-
-A line for each item of a call: `call I ROW OUT RECORD`, the record as six numbers, and for each run
-of words that was changed in a buffer `; nodes PLACE: WORDS`, likewise list and data.
+tests/README.md, 'The stored inputs', says how both are laid out.
 """
 
 import sys
 
-from calls import ASSERT, CHECK, EVALUATE, READ, WRITE, run
+from calls import ASSERT, CHECK, EVALUATE, FRESH, PORT_WORDS, PORTS, READ, WRITE, run
 
 LENGTH = 49160
-NODES, LIST, CONTROL, ADDRESS, DATA = range(5)
+NODES, LIST, CONTROL, ADDRESS, DATA, HELD = range(6)
 PUT, RECORD = 9, 10
-SHOWN = (("nodes", NODES), ("list", LIST), ("data", DATA))
+ACCESSES = WRITE, READ, ASSERT, CHECK
 OUT = 7
 WORD = 1 << 32
 
@@ -69,11 +54,21 @@ def changes(old, new):
     return found
 
 
+def left_words(call, left):
+    """The buffers that a call is lent and may write, with their names and what it leaves of them."""
+    yield "nodes", NODES, left.nodes
+    if call.kind in ACCESSES:
+        yield "list", LIST, left.list
+        yield "data", DATA, left.data
+    if call.kind in (FRESH, READ):
+        yield "ports", HELD, left.ports
+
+
 class Script:
     """The input so far, what must be printed, and the name of each call."""
 
     def __init__(self):
-        self.buffers = [[0] * LENGTH for _ in range(5)]
+        self.buffers = [[0] * LENGTH for _ in range(5)] + [[0] * (PORTS * PORT_WORDS)]
         self.record = (0,) * 6
         self.items = []
         self.lines = []
@@ -91,20 +86,23 @@ class Script:
                 self.item(PUT, buffer, place, many, len(strides), value, step, 0)
         old[:len(words)] = words
 
-    def call(self, name, call, record, nodes, entries, times=1):
+    def call(self, name, call, record, nodes, entries, ports, times=1):
         """A call, `times` times; what the last one answers, and what all leave."""
         if tuple(record) != self.record:
             self.item(RECORD, *record, 0)
         self.put(NODES, nodes)
-        if call.kind in (WRITE, READ, ASSERT, CHECK):
+        if call.kind in ACCESSES:
             self.put(LIST, entries)
             self.put(CONTROL, call.control if call.kind in (WRITE, READ) else [])
             self.put(ADDRESS, call.address)
             self.put(DATA, call.data)
-        self.item(call.kind, len(nodes), *numbers(call, entries), times, len(self.names))
+        if call.kind in (FRESH, READ):
+            self.put(HELD, ports)
+        last = call.port if call.kind == READ else times
+        self.item(call.kind, len(nodes), *numbers(call, entries), last, len(self.names))
         for _ in range(times):
-            left = run(call, record, nodes, entries)
-            record, nodes, entries = left.record, left.nodes, left.list
+            left = run(call, record, nodes, entries, ports)
+            record, nodes, entries, ports = left.record, left.nodes, left.list, left.ports
         self.record = tuple(left.record)
         self.names.append(name)
         self.lines.append(self.line(call, left))
@@ -113,11 +111,8 @@ class Script:
     def line(self, call, left):
         words = " ".join(str(x) for x in left.record)
         text = "call %d %d %d %s" % (len(self.names) - 1, left.number, OUT if left.out is None else left.out, words)
-        for name, buffer in SHOWN:
+        for name, buffer, new in left_words(call, left):
             old = self.buffers[buffer]
-            new = {NODES: left.nodes, LIST: left.list, DATA: left.data}[buffer]
-            if buffer != NODES and call.kind not in (WRITE, READ, ASSERT, CHECK):
-                continue
             for place, changed in changes(old[:len(new)], new):
                 text += "; %s %d: %s" % (name, place, " ".join(str(x) for x in changed))
             old[:len(new)] = new

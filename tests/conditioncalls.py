@@ -7,7 +7,7 @@
 
 The input has items of eight numbers of four bytes, low byte first, on a buffer of 49,160 words:
 
-    9 0 PLACE MANY STRIDE VALUE STEP 0    put words, as callscript.py has it
+    9 0 PLACE MANY STRIDE VALUE STEP 0    put words, as memory_test does
     1 COUNT WORDS                         whether the first WORDS words and COUNT are a store; if they
                                           are, the operations that follow are on it
     2 WORDS                               the capacity of so many words

@@ -18,9 +18,9 @@ def parity_case(build, size, node_words, list_words):
     `build(case, odd, even)` adds accesses that name no node but 0, 1, P and not P.
 
     Derivation.  Take the same case with one variable in the place of P (`small`, for
-    which truth tables do).  Each condition that an access builds is a function of the
-    index variables and of P.  Index variables come first in the order.  Below them
-    Ite works on functions of P alone: 0, 1, P, not P.  With variables 8 to v fixed,
+    which truth tables do).  Each condition that an access builds, or a port holds, is a
+    function of the index variables and of P.  Index variables come first in the order.
+    Below them Ite works on functions of P alone: 0, 1, P, not P.  With variables 8 to v fixed,
     these are 0, 1 and the odd and the even parity of the variables after v, and all of
     them are nodes of the file.  So no new node is on a user variable, in either case,
     and on index variables both make the same ones in the same order.  The full case has
@@ -61,6 +61,9 @@ def parity_accesses(case, odd, even):
     case.write(p, [ZERO], [ONE])
     case.write((odd, 1), [q], [p])
     case.read((odd, 1), [X])
+    case.read((odd, 1), [q], 2)
+    case.read((even, 1), [p], 2)
+    case.read(ZERO, [p], 2)
     case.check(even, [ONE], [X])
     case.check(odd, [X], [p])
     case.assert_(even, [q], [q])

@@ -5,7 +5,7 @@ import rooms  # noqa: F401
 from casefile import CaseFile, ONE, X, ZERO, bits, number_bits
 from randomcases import Random
 from reference import INPUT_BYTES, TEXT_BYTES, run_case
-from rowcases import all_kinds, one_assert, symbolic
+from rowcases import all_kinds, held_words, one_assert, symbolic
 from stored import through_library, through_memcase
 
 
@@ -143,7 +143,8 @@ def numbers_of_nodes():
     case.write((1, f), [ZERO], [ONE])
     randomcases.show_nodes(case, randomcases.made_nodes(case))
     yield through_memcase("numbers-not", case.bytes(), "the nodes of Not, low part first")
-    for name, made in (("all-kinds", all_kinds()), ("symbolic", symbolic()), ("assert", one_assert())):
+    for name, made in (("all-kinds", all_kinds()), ("symbolic", symbolic()), ("assert", one_assert()),
+                       ("held", held_words())):
         randomcases.show_nodes(made, randomcases.made_nodes(made))
         yield through_memcase("numbers-" + name, made.bytes(), "every node made on a user variable, by its number")
     for seed in range(12):

@@ -26,10 +26,10 @@ from randomcases import random_bytes
 from reference import left_of, run_case
 
 # The rows that a function can meet.
-REACHED = {WRITE: {0, 1, 2, 3, 4, 5, 6, 8, 9}, READ: {0, 1, 2, 3, 4, 5, 6, 9}, ASSERT: set(range(10)),
+REACHED = {WRITE: {0, 1, 2, 3, 4, 5, 6, 8, 9}, READ: {0, 1, 2, 3, 4, 5, 6, 9, 14}, ASSERT: set(range(10)),
            CHECK: {0, 1, 2, 3, 4, 5, 6, 9}, FRESH: {0, 1, 2}, EVALUATE: {0, 1, 2, 5}, VARIABLE: {0, 1, 2, 5, 9},
            ITE: {0, 1, 2, 5, 9}}
-REACHED_BY_CASES = {0, 1, 2, 5, 6, 7, 8, 9, 10, 11, 12, 13}
+REACHED_BY_CASES = {0, 1, 2, 5, 6, 7, 8, 9, 10, 11, 12, 13, 14}
 GUARD = 8
 
 
@@ -69,13 +69,13 @@ class Lent:
 
 def ask(library, one, state, out):
     """A call of the library: what it returned, its out-word, and every buffer."""
-    record, nodes, entries = Lent(state.record), Lent(state.nodes), Lent(state.list)
+    record, nodes, entries, ports = (Lent(words) for words in state)
     control, address, data = Lent(one.control), Lent(one.address), Lent(one.data)
     told = ctypes.c_uint32(out)
     at = record.buffer
     other = [ctypes.c_uint32(x) for x in one.other]
     if one.kind == FRESH:
-        number = library.fresh(at, *other, *nodes.slice())
+        number = library.fresh(at, *other, *nodes.slice(), ports.buffer)
     elif one.kind == EVALUATE:
         number = library.evaluate(at, *nodes.slice(), other[0], ctypes.c_uint64(one.other[1]), ctypes.byref(told))
     elif one.kind == VARIABLE:
@@ -84,12 +84,19 @@ def ask(library, one, state, out):
         number = library.ite(at, *nodes.slice(), *other, ctypes.byref(told))
     else:
         first = control.slice() if one.kind in (WRITE, READ) else [ctypes.c_uint32(one.control[0])]
+        if one.kind == READ:
+            first = [ports.buffer, ctypes.c_uint32(one.port), *first]
         last = [ctypes.byref(told)] if one.kind in (WRITE, ASSERT) else []
         function = getattr(library, NAMES[one.kind])
         number = function(at, *nodes.slice(), *entries.slice(), *first, *address.slice(), *data.slice(), *last)
     if control.words() != list(one.control) or address.words() != list(one.address):
         raise Differs("a slice was written that is only read")
-    return number, told.value, tuple(record.words()), nodes.words(), entries.words(), data.words()
+    return number, told.value, tuple(record.words()), nodes.words(), entries.words(), data.words(), ports.words()
+
+
+def after(left):
+    """The memory that a call leaves."""
+    return State(left.record, left.nodes, left.list, left.ports)
 
 
 class Test:
@@ -102,22 +109,22 @@ class Test:
     def compare(self, rng, one, state):
         expected = run(one, *state)
         out = rng.below(1 << 32)
-        wanted = (expected.number, out if expected.out is None else expected.out, tuple(expected.record), expected.nodes,
-                  expected.list, expected.data)
+        wanted = (expected.number, out if expected.out is None else expected.out, tuple(expected.record), *expected[3:])
         found = ask(self.library, one, state, out)
-        for what, right, answer in zip(("number", "out-word", "record", "node words", "list words", "data"), wanted, found):
+        names = "number", "out-word", "record", "node words", "list words", "data", "port words"
+        for what, right, answer in zip(names, wanted, found):
             if right != answer:
                 raise Differs("%s: %s is %s, not %s\n%s\n%s" % (NAMES[one.kind], what, answer, right, one, state))
         self.met[one.kind, expected.number] += 1
         return expected
 
-    def capacities(self, rng, one, state, after):
+    def capacities(self, rng, one, state, left):
         """The call with room for from none to all of the nodes that it needs: 9 where that is not enough."""
-        if after.number or one.kind == FRESH:
+        if left.number or one.kind == FRESH:
             return
-        least, needed = state.record.nodes, after.record.nodes
+        least, needed = state.record.nodes, left.record.nodes
         for nodes in range(needed, least - 1, -1 - (needed - least) // 12):
-            small = State(state.record, state.nodes[:3 * nodes + rng.below(3)], state.list)
+            small = state._replace(nodes=state.nodes[:3 * nodes + rng.below(3)])
             if self.compare(rng, one, small).number != (9 if nodes < needed else 0):
                 raise Differs("%s in %d nodes" % (NAMES[one.kind], nodes))
 
@@ -127,9 +134,9 @@ class Test:
             left = self.compare(rng, one, state)
             if rng.chance(10):
                 self.capacities(rng, one, state, left)
-            return State(left.record, left.nodes, left.list)
+            return after(left)
         left = self.compare(rng, *damage(rng, one, state))
-        return State(left.record, left.nodes, left.list) if left.number == 0 and rng.chance(50) else state
+        return after(left) if left.number == 0 and rng.chance(50) else state
 
     def chain(self, seed):
         """Calls one after another from a Fresh."""
@@ -137,7 +144,8 @@ class Test:
         size = shape(rng)
         nodes = rng.words(rng.between(6, 120) if rng.chance(50) else rng.between(100, 900))
         listed = rng.words(rng.below(8) * entry_size(size.n, size.w) + rng.below(4))
-        state = self.step(rng, State(rng.record(), nodes, listed), Call(FRESH, other=(size.n, size.w)), 10)
+        state = State(rng.record(), nodes, listed, rng.ports())
+        state = self.step(rng, state, Call(FRESH, other=(size.n, size.w)), 10)
         for _ in range(rng.between(5, 20)):
             state = self.step(rng, state, call(rng, state, size.variables), 25)
 

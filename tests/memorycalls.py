@@ -1,6 +1,6 @@
 #!/usr/bin/env python3
 """The calls of `memory_test`: every row by each call that can meet it, the order of the rows, the
-panel's rulings, lists and stores at their limits.
+panel's rulings, what ports hold, lists and stores at their limits.
 
     python3 tests/memorycalls.py            write crates/memory_test/stdin and stdout
     python3 tests/memorycalls.py --check    compare them; status 1 where one is not as made
@@ -12,10 +12,10 @@ What must be printed is found by tools/calls.py.
 import sys
 
 from rooms import ROOT
-from callscript import Script, main
-from calls import (ASSERT, CHECK, EVALUATE, FRESH, ITE, NAMES, READ, VARIABLE, WRITE, Call, Record)
+from callscript import ACCESSES, Script, main
+from calls import (ASSERT, CHECK, EVALUATE, FRESH, ITE, NAMES, PORT_WORDS, PORTS, READ, VARIABLE, WRITE, Call, Record,
+                   held_places, run)
 
-ACCESSES = WRITE, READ, ASSERT, CHECK
 TERMINALS = [64, 0, 0, 64, 1, 1]
 ONE, ZERO, X = [1, 0], [0, 1], [1, 1]
 
@@ -26,13 +26,25 @@ def record_of(n, w, count, entries, asserted=1, checked=1):
     return Record(n, w, count, entries, asserted, checked)
 
 
+def port_words(w, words=()):
+    """Port words: held words of node 1 but for those that `words` has by their ports, and 7 in every
+    word past a held one."""
+    found = [7] * (PORTS * PORT_WORDS)
+    for port in range(PORTS):
+        found[held_places(port, w)] = dict(words).get(port, [1] * (2 * w))
+    return found
+
+
 def access(kind, control, address, data):
     """An access; an assert or a check has the first word of the control as b."""
     return Call(kind, control if kind in (WRITE, READ) else control[:1], address, data)
 
 
-def tell(name, call, record, nodes, entries=(), times=1):
-    return S.call("%s, %s" % (name, NAMES[call.kind]), call, record, list(nodes), list(entries), times)
+def tell(name, call, record, nodes, entries=(), times=1, ports=None):
+    """A call; Fresh is lent ports of 7 in every word, and a read those that hold X, if no others are said."""
+    if ports is None:
+        ports = port_words(0 if call.kind == FRESH else min(record.w, 16))
+    return S.call("%s, %s" % (name, NAMES[call.kind]), call, record, list(nodes), list(entries), ports, times)
 
 
 def each(name, record, nodes, entries, control, address, data):
@@ -100,6 +112,11 @@ def row_3():
             ("check condition on index 0", 1, 3, entry)):
         one_at_0(name, record_of(1, 1, 4, 1, asserted, checked), nodes, entries)
     node_calls("1 entry, conditions 4 and 3", record_of(1, 1, 4, 1, 4, 3), nodes)
+    # A held word, by a read alone: in the port that it reads, in another; not past the first 2w words.
+    for port in range(PORTS):
+        for held in ([4, 1], [1, 4], [3, 1], [1, 3], [2 ** 32 - 1, 1]):
+            lent_ports("held word %d:%d in port %d" % (*held, port), port_words(1, {port: held}))
+        lent_ports("4 past the held word of port %d" % port, port_words(2, {port: [1, 1, 4, 4]}))
 
 
 # A store with variable 8 as node 2, index variable 0 as node 3, count 4 and room for one more node,
@@ -111,6 +128,12 @@ LENT_LIST = [1, 0, 0, 1, 1, 0, 7, 7]
 def lent(name, kinds, control=ONE, address=ZERO, data=ONE):
     for kind in kinds:
         tell(name, access(kind, list(control), list(address), list(data)), record_of(1, 1, 4, 1), LENT, LENT_LIST)
+
+
+def lent_ports(name, ports, port=1, control=ONE, address=ZERO, data=ONE):
+    """A read on that store, by a port and lent these port words."""
+    call = Call(READ, control, address, data, port=port)
+    tell(name, call, record_of(1, 1, 4, 1), LENT + [7] * 6, LENT_LIST, ports=ports)
 
 
 def on_lent(name, call):
@@ -202,6 +225,12 @@ def row_9():
     tell("not 2", Call(ITE, other=(2, 0, 1)), record_of(1, 1, 4, 0), nodes)
 
 
+def row_14():
+    """A read's port above 3."""
+    for port in (0, 3, 4, 5, 255, 2 ** 31, 2 ** 32 - 1):
+        lent_ports("port %d" % port, port_words(1), port)
+
+
 # Calls that more than one row refuses.
 
 def ordered(name, record, terminal, list_words, control, address, data, room=5):
@@ -234,6 +263,24 @@ def order():
     ordered("8", memory, 64, 8, [1, 3], [0, 1, 0, 1], ZERO, 30)
     ordered("8, or kept", memory, 64, 8, [1, 3], [0, 1, 0, 1], ONE, 30)
     ordered("none", memory, 64, 16, [1, 3], [0, 1, 0, 1], ZERO, 30)
+
+
+def order_of_read():
+    """A read's rows, 1, 2, 3, 4, 14, 5, 6, 9: a held word that is the count, in a port that is read or
+    not; a port above 3; and what the other rows refuse."""
+    right, wrong, neither = port_words(1), port_words(1, {2: [1, 4]}), [0, 0]
+    for port in (2, 0, 4):
+        lent_ports("3 to 6, port %d" % port, wrong, port, [4, 1], neither, [7])
+        lent_ports("3, 5, 6, port %d" % port, wrong, port, [4, 1], neither)
+        lent_ports("3, port %d" % port, wrong, port)
+    for control, address, data, what in (([4, 1], neither, [7], "4, 14, 5, 6"), ([4, 1], neither, ONE, "14, 5, 6"),
+                                         (neither, ZERO, ONE, "14, 6"), ([1, 0, 0], ZERO, ONE, "4, 14")):
+        lent_ports(what, right, 4, control, address, data)
+    # n = 9, node 0 on variable 63; and with no room for the nodes that the look needs.
+    for n, terminal, ports, what in ((9, 63, wrong, "1, 2, 3, 14"), (1, 63, wrong, "2, 3, 14"), (1, 64, wrong, "3, 14"),
+                                     (1, 64, right, "14, 9")):
+        tell(what, Call(READ, ONE, ZERO, ONE, port=4), record_of(n, 1, 2, 0), [terminal] + TERMINALS[1:], [], ports=ports)
+    tell("3, 9", Call(READ, ONE, ZERO, ONE), record_of(1, 1, 2, 0), TERMINALS, [], ports=wrong)
 
 
 def order_in_assert():
@@ -269,19 +316,27 @@ class Memory:
 
     def __init__(self, what, n, w, nodes, entries, before=record_of(1, 1, 2, 0)):
         self.what = what
-        self.record, self.nodes, self.entries = before, list(nodes), list(entries)
+        self.record, self.nodes, self.entries, self.ports = before, list(nodes), list(entries), port_words(0)
         self.go("begun", Call(FRESH, other=(n, w)))
 
     def go(self, name, call, times=1):
-        left = tell("%s, %s" % (self.what, name), call, self.record, self.nodes, self.entries, times)
-        self.record, self.nodes, self.entries = left.record, left.nodes, left.list
+        left = tell("%s, %s" % (self.what, name), call, self.record, self.nodes, self.entries, times, self.ports)
+        self.record, self.nodes, self.entries, self.ports = left.record, left.nodes, left.list, left.ports
         return left
+
+    def variable(self, v):
+        """The pair of variable v."""
+        node = self.go("variable %d" % v, Call(VARIABLE, other=(v,))).out
+        return [node, self.go("not %d" % v, Call(ITE, other=(node, 0, 1))).out]
 
     def write(self, address, data, enable=ONE):
         return self.go("write", Call(WRITE, enable, address, data))
 
-    def read(self, address, enable=ONE):
-        return self.go("read", Call(READ, enable, address, [7] * (2 * self.record.w)))
+    def read(self, address, enable=ONE, port=0):
+        return self.go("port %d" % port, Call(READ, enable, address, [7] * (2 * self.record.w), port=port))
+
+    def held(self, port):
+        return self.ports[held_places(port, self.record.w)]
 
     def check(self, address, data):
         return self.go("check", Call(CHECK, [1], address, data))
@@ -309,11 +364,73 @@ def rulings():
     ruling(8, [(ZERO, ONE, ONE), (ONE, ONE, ONE), (X, ZERO, ONE)], ZERO, ONE, X)
     ruling(9, [(ZERO, ONE, ZERO)], ZERO, ONE, X)
     ruling(10, [(ZERO, ONE, ONE)], ZERO, X, X)
+    memory = Memory("R10, the port's last word 1", 1, 1, [0] * 96, [0] * 24)
+    memory.write(ZERO, ONE)
+    memory.read(ZERO)
+    assert memory.read(ZERO, X).data == ONE
     memory = Memory("R11", 1, 2, [0] * 96, [0] * 24)
     memory.write(ZERO, ONE + ZERO)
     memory.write(ONE, ZERO + ONE)
     assert memory.check(X, X + X).record.check_condition == 1
     assert memory.check(X, ONE + ZERO).record.check_condition == 0
+
+
+def holding():
+    """A port holds the last word read by it: a disabled read gives it again, one under an X enable the
+    union of it and the look; no other port is touched, nor is a word past the held ones."""
+    memory = Memory("ports", 1, 2, [7] * 300, [7] * 60)
+    a, b = memory.variable(8), memory.variable(9)
+    memory.write(ZERO, ONE + ZERO)
+    memory.write(ONE, ZERO + a)
+    for port in range(PORTS):
+        assert memory.read(ONE, ZERO, port).data == X + X, "a fresh port"
+    for port, address in ((0, ZERO), (1, ONE), (2, b)):
+        memory.read(address, ONE, port)
+    assert [memory.held(port) for port in (0, 1, 3)] == [ONE + ZERO, ZERO + a, X + X]
+    memory.write(ZERO, ZERO + ZERO)
+    for port in range(PORTS):
+        held = memory.held(port)
+        for address in (ZERO, X):
+            assert memory.read(address, ZERO, port).data == held, "kept by a disabled read"
+    # The look at 1 is 0 and variable 8.
+    assert memory.read(ONE, X, 0).data == X + [a[0], 1], "joined"
+    assert memory.read(ONE, X, 1).data == ZERO + a, "joined with the same word"
+    assert memory.read(ONE, X, 3).data == X + X, "joined with X"
+    # An enable that is variable 9: the look where it is 1, the held word where it is 0; then X there.
+    memory.read(ONE, ONE, 0)
+    assert memory.read(ZERO, b, 0).data[:2] == ZERO, "chosen"
+    memory.read(b, a, 2)
+    memory.read(ZERO, [b[0], 1], 1)
+    memory.read(a, [1, a[0]], 2)
+    memory.read(X, [a[0], 1], 3)
+    # Refused reads leave every port.
+    held = list(memory.ports)
+    for control, address, port, row in ((ONE, [0, 0], 0, 6), (ONE, ZERO, 4, 14), ([0, 99], ZERO, 1, 5),
+                                        (ONE, ZERO + ZERO, 2, 4)):
+        assert memory.read(address, control, port).number == row and memory.ports == held
+    # A refused Fresh leaves them too, and one that is accepted begins them anew.
+    assert memory.go("refused", Call(FRESH, other=(9, 2))).number == 1 and memory.ports == held
+    memory.go("begun again", Call(FRESH, other=(1, 1)))
+    assert memory.ports == [1] * (PORTS * PORT_WORDS)
+
+
+def late_nine():
+    """9 where no room is left for a node of the look, of S, of a choice or of its Ite: every port is left.
+
+    The enable is 1 where variable 8 is, X where 9 alone is, and else 0."""
+    memory = Memory("few nodes", 1, 1, [7] * 120, [7] * 12)
+    a, b, c, d = (memory.variable(v) for v in (8, 9, 10, 11))
+    either = memory.go("8 or 9", Call(ITE, other=(a[0], 1, b[0]))).out
+    memory.write(ZERO, c)
+    memory.read(ZERO, ONE, 1)
+    memory.write(ZERO, d)
+    call = Call(READ, [either, a[1]], ZERO, [7, 7], port=1)
+    needed = run(call, memory.record, memory.nodes, memory.entries, memory.ports).record.nodes
+    for nodes in range(memory.record.nodes, needed + 1):
+        left = tell("few nodes, %d" % nodes, call, memory.record, memory.nodes[:3 * nodes + 2], memory.entries,
+                    ports=memory.ports)
+        assert left.number == (9 if nodes < needed else 0)
+        assert (left.ports == memory.ports) == (nodes < needed)
 
 
 def bits(number, many):
@@ -328,12 +445,9 @@ def largest_sizes():
     0.  A check of the other word then holds, and one of the first not.  A write to an X address takes
     the last of three entries' words, and one more is refused by 8."""
     memory = Memory("n = 8, w = 16", 8, 16, [7] * 3000, [7] * 150)
-    memory.go("variable 8", Call(VARIABLE, other=(8,)))
-    memory.go("variable 63", Call(VARIABLE, other=(63,)))
-    memory.go("not 63", Call(ITE, other=(3, 0, 1)))
-    memory.go("not 8", Call(ITE, other=(2, 0, 1)))
-    address = bits(0b0101101, 7)[:14] + [3, 4]
-    word = bits(0x5a3c, 15) + [2, 5]
+    low, high = memory.variable(8), memory.variable(63)
+    address = bits(0b0101101, 7)[:14] + high
+    word = bits(0x5a3c, 15) + low
     other = bits(0xeb67, 16)
     memory.read(address)
     memory.write(address, word)
@@ -346,6 +460,11 @@ def largest_sizes():
     memory.write([1] * 16, word)
     memory.read(address)
     assert memory.write(address, word).number == 8
+    # The held words are all 32 words of a port.
+    memory.read(address, ONE, 3)
+    assert memory.read([1] * 16, ZERO, 0).data == memory.held(3)
+    memory.read([1] * 16, [high[0], 1], 3)
+    assert memory.ports[32:96] == [1] * 64
 
 
 def lists():
@@ -416,8 +535,9 @@ def largest_stores():
         one_at_0(name, record_of(1, 1, count, 0), nodes, [7] * 6)
 
 
-SMALL = [row_1, row_2, row_3, row_4, row_5, row_6, row_7, row_8, row_9, order, order_in_assert, order_unlisted]
-GROUPS = SMALL + [rulings, largest_sizes, lists, most_entries, largest_stores]
+SMALL = [row_1, row_2, row_3, row_4, row_5, row_6, row_7, row_8, row_9, row_14, order, order_of_read, order_in_assert,
+         order_unlisted, rulings, holding, late_nine]
+GROUPS = SMALL + [largest_sizes, lists, most_entries, largest_stores]
 
 
 def script(groups=GROUPS):

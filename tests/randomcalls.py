@@ -3,8 +3,8 @@
 from collections import namedtuple
 
 import rooms  # noqa: F401
-from calls import (ASSERT, CHECK, EVALUATE, FRESH, ITE, READ, VARIABLE, WRITE, Call, Record, entry_size, halves,
-                   tables_of)
+from calls import (ASSERT, CHECK, EVALUATE, FRESH, ITE, PORT_WORDS, PORTS, READ, VARIABLE, WRITE, Call, Record,
+                   entry_size, halves, held_places, tables_of)
 from randomcases import Random
 from tables import TERMINALS, USER_VARIABLE, TooManyVariables, is_standard, node_capacity
 
@@ -12,7 +12,7 @@ EDGES = 7, 8, 9, 15, 16, 17, 63, 64, 65, 4096, 4097, 16383, 16384, 16385
 LARGE = (1 << 32) - 1, (1 << 32) - 2, 1 << 31, (1 << 31) - 1, 1 << 30, 1 << 16, 0x55555556
 ONE, ZERO, X = [1, 0], [0, 1], [1, 1]
 
-State = namedtuple("State", "record nodes list")
+State = namedtuple("State", "record nodes list ports")
 Shape = namedtuple("Shape", "n w variables")
 
 
@@ -34,6 +34,9 @@ class Words(Random):
 
     def record(self):
         return Record(*self.words(6))
+
+    def ports(self):
+        return self.words(PORTS * PORT_WORDS)
 
 
 # Memories.
@@ -76,12 +79,20 @@ def child(rng, nodes, variable):
 
 
 def memory(rng, size, nodes, entries, more_nodes, more_list):
-    """A memory with these nodes, whose entries and conditions are any user nodes."""
+    """A memory with these nodes, whose entries, conditions and held words are any user nodes."""
     users = [i for i, node in enumerate(nodes) if node[0] >= USER_VARIABLE]
     listed = [rng.choice(users) for _ in range(entries * entry_size(size.n, size.w))]
     conditions = [1, 1] if rng.chance(50) else [rng.choice(users), rng.choice(users)]
     return State(Record(size.n, size.w, len(nodes), entries, *conditions), halves(nodes) + rng.words(more_nodes),
-                 listed + rng.words(more_list))
+                 listed + rng.words(more_list), held_ports(rng, size.w, users))
+
+
+def held_ports(rng, w, users):
+    """Port words whose held words are any of these nodes."""
+    ports = rng.ports()
+    for port in range(PORTS):
+        ports[held_places(port, w)] = [rng.choice(users) for _ in range(2 * w)]
+    return ports
 
 
 def no_memory(rng):
@@ -93,7 +104,7 @@ def no_memory(rng):
     if rng.chance(50) and len(nodes) >= 6:
         nodes[:6] = halves(TERMINALS)
         record = record._replace(nodes=rng.between(1, 4))
-    return State(record, nodes, listed)
+    return State(record, nodes, listed, rng.ports())
 
 
 def standard(state):
@@ -168,7 +179,7 @@ def access(rng, state):
     if kind == WRITE:
         return Call(kind, pool.enable(), pool.pairs(n), pool.pairs(w))
     if kind == READ:
-        return Call(kind, pool.enable(), pool.pairs(n), rng.words(2 * min(w, 40)))
+        return Call(kind, pool.enable(), pool.pairs(n), rng.words(2 * min(w, 40)), port=rng.below(PORTS))
     b = 1 if rng.chance(30) else pool.node()
     return Call(kind, [b], pool.pairs(n, pool.tables[b] if kind == ASSERT else 0), pool.pairs(w))
 
@@ -188,7 +199,11 @@ def any_call(rng, state):
         return Call(kind, other=(rng.word(),))
     if kind == ITE:
         return Call(kind, other=tuple(rng.words(3)))
-    return Call(kind, words(1) if kind in (WRITE, READ) else [rng.word()], words(n), words(w))
+    return Call(kind, words(1) if kind in (WRITE, READ) else [rng.word()], words(n), words(w), port=any_port(rng))
+
+
+def any_port(rng):
+    return rng.below(PORTS) if rng.chance(60) else rng.choice([PORTS, PORTS + 1, rng.word()])
 
 
 # Damage.
@@ -221,8 +236,8 @@ def resized(rng, words, length):
 
 
 def damage_state(rng, state):
-    record, nodes, listed = state
-    way = rng.below(9)
+    record, nodes, listed, ports = state
+    way = rng.below(10)
     if way < 2:
         place = rng.below(6)
         record = Record(*record[:place], near(rng, record[place]), *record[place + 1:])
@@ -239,9 +254,19 @@ def damage_state(rng, state):
     elif way == 7:  # no room for an entry
         size = entry_size(min(record.n, 20), min(record.w, 20))
         listed = resized(rng, listed, min(record.entries, 5000) * size + rng.below(size))
-    else:
+    elif way == 8:
         listed = resized(rng, listed, rng.below(len(listed) + 8))
-    return State(record, nodes, listed)
+    else:
+        ports = damage_ports(rng, ports, min(record.w, 16), state)
+    return State(record, nodes, listed, ports)
+
+
+def damage_ports(rng, ports, w, state):
+    """A word changed, most often of a held word."""
+    ports = list(ports)
+    inside = rng.below(2 * w) if w and rng.chance(80) else rng.below(PORT_WORDS)
+    ports[PORT_WORDS * rng.below(PORTS) + inside] = other_node(rng, state)
+    return ports
 
 
 def other_node(rng, state):
@@ -267,6 +292,8 @@ def damage_call(rng, one, state):
     if one.kind == ASSERT and rng.chance(30) and one.address:  # an X address bit
         bit = rng.below((len(one.address) + 1) // 2)
         return one._replace(address=one.address[:2 * bit] + X + one.address[2 * bit + 2:])
+    if one.kind == READ and rng.chance(20):
+        return one._replace(port=any_port(rng))
     field = rng.choice(["control", "address", "data"] if one.kind in (WRITE, READ) else ["address", "data"])
     return one._replace(**{field: damage_slice(rng, list(getattr(one, field)), state)})
 

@@ -1,16 +1,17 @@
-"""Stored cases for the paper's examples and rulings, each row of its table, and their order."""
+"""Stored cases for the paper's examples and rulings, each row of its table, and their order; what ports hold."""
 
 import os
 
 from rooms import ROOT
 import casetext
-from casefile import Access, CaseFile, ONE, X, ZERO, bits
+from calls import PORTS
+from casefile import Access, CaseFile, ONE, X, ZERO, access_bytes, bits, number_bits
 from reference import printed, run_case
 from stored import through_library, through_memcase
 
 WORKED = bytes.fromhex(
     "01 01 02 00 08 00 00 01 00 08 01 00 00 00 03 00 01 01 00 00 00 02 00 03 00 01 00 00 00"
-    "02 01 00 00 00 00 00 01 00 04 01 00 00 00 01 00 01 00 00 00")
+    "02 00 01 00 00 00 00 00 01 00 04 01 00 00 00 01 00 01 00 00 00")
 
 
 # The paper's examples.
@@ -33,7 +34,8 @@ RULINGS = [
     ("07", "R7 1@0, 0@1, read X: X", "1@0, 0@1, read X"),
     ("08", "R8 1@0, 1@1, 0@X, read 0: X", "1@0, 1@1, 0@X, read 0"),
     ("09", "R9 1@0 with enable 0, read 0: X", "1@00, read 0"),
-    ("10", "R10 1@0, read 0 with enable X: X", "1@0, read 0X"),
+    ("10", "R10 1@0, read 0 with enable X on a fresh port: X", "1@0, read 0X"),
+    ("10-last", "R10 1@0, read 0 with enable X where the same port's last word was 1: 1", "1@0, read 0, read 0X"),
     ("11", "R11 w=2, 01@0, 10@1: check X against XX holds, against 01 not",
      "01@0, 10@1, check X XX, check X 01"),
 ]
@@ -82,6 +84,25 @@ def all_kinds():
     case.read(ONE, [X])
     case.check(a[0], [ONE], [X])
     case.check(1, [ZERO], [ONE])
+    return case
+
+
+def held_words():
+    """Two locations of two bits; words held by three ports, then reads whose enables are 0, X and symbolic."""
+    case = CaseFile(1, 2)
+    a, b, c = case.bit(8), case.bit(9), case.bit(10)
+    either = case.node(8, b[0], 1)
+    case.write(ONE, [ZERO], [a, ONE])
+    case.write(ONE, [ONE], [b, ZERO])
+    case.read(ONE, [ZERO])
+    case.read(ONE, [c], 1)
+    case.write(ONE, [ZERO], [c, ZERO])
+    case.read(ZERO, [ZERO])
+    case.read(X, [ZERO])
+    case.read((either, a[1]), [ONE], 1)
+    case.read((b[0], 1), [ZERO], 2)
+    case.read(c, [X])
+    case.read((1, a[0]), [c], 1)
     return case
 
 
@@ -340,7 +361,7 @@ def turning_counts(case, need):
 def row_9():
     yield through_library("row-09-six-words", read_only().bytes(), "6 node words, a read, n=1",
                           node_words=6)
-    for name, case in (("all-kinds", all_kinds()), ("symbolic", symbolic())):
+    for name, case in (("all-kinds", all_kinds()), ("symbolic", symbolic()), ("held", held_words())):
         outcome = run_case(case.bytes())
         for count in turning_counts(case, outcome.record.nodes):
             yield through_library("row-09-%s-%03d" % (name, count), case.bytes(),
@@ -365,7 +386,7 @@ def row_11():
         case = read_only()
         case.accesses.append(Access(kind, [1, 0], [ZERO], []))
         yield through_memcase("row-11-kind-%d" % kind, case.bytes(), "kind %d after one access" % kind)
-        at = len(case.header_bytes()) + 9
+        at = len(case.header_bytes() + access_bytes(case.accesses[0]))
         yield through_memcase("row-11-kind-%d-alone" % kind, case.bytes()[:at + 1],
                               "kind %d as the last byte: 11 and not 10" % kind)
     case = CaseFile()
@@ -396,8 +417,17 @@ def row_13():
                                   "a text of %d bytes into %d" % (len(text), size), text_bytes=size)
 
 
+def row_14():
+    for port in (PORTS - 1, PORTS, PORTS + 1, 128, 255):
+        case = read_only()
+        case.read(X, [ZERO], port)
+        yield through_memcase("row-14-port-%d" % port, case.bytes(),
+                              "port %d after one access%s" % (port, "" if port >= PORTS else " (accepted)"))
+    yield through_memcase("row-14-no-port-byte", WORKED[:30] + WORKED[31:], "the paper's file without its port byte")
+
+
 def rows():
-    for row in (row_1, row_2, row_5, row_6, row_7, row_8, row_9, row_10, row_11, row_12, row_13):
+    for row in (row_1, row_2, row_5, row_6, row_7, row_8, row_9, row_10, row_11, row_12, row_13, row_14):
         yield from row()
 
 
@@ -443,3 +473,95 @@ def orders():
     yield through_library("order-13-12", case(good).bytes() + b"\0", "13 at the last access before 12", text_bytes=7)
     yield through_library("order-13-end", case(good).bytes(), "13 at `end`", text_bytes=13)
     yield through_memcase("order-11-before-content", case(good, (0, [99], [], [])).bytes(), "11 before 5")
+    yield from port_orders(case)
+
+
+def port_orders(case):
+    """Where 14 stands in a read: after the missing bytes, before the nodes."""
+    data = case((2, [1, 0], [ZERO], [], 4)).bytes()
+    start = len(case().bytes())
+    yield through_memcase("order-10-port", data[:start + 1], "a kind of a read and no port byte")
+    yield through_memcase("order-10-14-alone", data[:start + 2], "missing bytes of a read after its port 4")
+    yield through_memcase("order-10-14", data[:-1], "a missing byte of a read by port 4 before 14")
+    yield through_memcase("order-14-12", data + b"\0", "14 before a byte after the last access")
+    yield through_memcase("order-14-05", case((2, [99, 1], [ZERO], [], 4)).bytes(), "14 before 5")
+    yield through_memcase("order-14-06", case((2, [0, 0], [ZERO], [], 4)).bytes(), "14 before 6")
+    yield through_library("order-14-09", data, "14 before 9", node_words=12)
+    yield through_library("order-14-13", data, "14 before 13", text_bytes=0)
+
+
+# What ports hold.
+
+def ports():
+    yield through_memcase("ports-held", held_words().bytes(), "words held and read again under enables 0, X and symbolic")
+    yield from kept_words()
+    yield from joined_words()
+    yield from ports_apart()
+    case = CaseFile()
+    case.write(ONE, [ZERO], [ONE])
+    for port in range(PORTS):
+        case.read(ZERO, [ZERO], port)
+        case.read(X, [ZERO], port)
+    yield through_memcase("ports-fresh", case.bytes(), "ports that nothing was read by hold X")
+
+
+def kept_words():
+    """A disabled read, at any address and after any write, gives the word that its port holds."""
+    case = CaseFile(1, 2)
+    a = case.bit(8)
+    case.write(ONE, [ZERO], bits("10"))
+    case.read(ONE, [ZERO], 3)
+    case.write(ONE, [ZERO], bits("01"))
+    for address in (ZERO, ONE, X, a):
+        case.read(ZERO, [address], 3)
+    case.assert_(1, [ZERO], bits("11"))
+    case.read(ZERO, [ZERO], 3)
+    case.read(ONE, [ZERO], 3)
+    case.read(ZERO, [ONE], 3)
+    yield through_memcase("ports-kept", case.bytes(), "disabled reads keep their port's word until it is replaced")
+    case = CaseFile()
+    a, b = case.bit(8), case.bit(9)
+    case.write(ONE, [ZERO], [b])
+    case.read(ONE, [ZERO])
+    case.write(ONE, [ZERO], [ONE])
+    case.read(a, [ZERO])
+    case.read(ZERO, [ZERO])
+    case.read(a[::-1], [ZERO])
+    yield through_memcase("ports-chosen", case.bytes(), "a symbolic enable chooses between the look and the held word")
+
+
+def joined_words():
+    """Under an X enable each bit is what the look or the held word admits, and so it is held."""
+    case = CaseFile(1, 3)
+    case.write(ONE, [ZERO], bits("10X"))
+    case.write(ONE, [ONE], bits("11X"))
+    case.read(ONE, [ZERO], 1)
+    case.read(X, [ONE], 1)
+    case.read(ZERO, [ONE], 1)
+    case.read(ONE, [ONE], 1)
+    case.read(X, [ONE], 1)
+    yield through_memcase("ports-joined", case.bytes(), "an X enable joins the look and the held word, bit by bit")
+    case = CaseFile()
+    a, b = case.bit(8), case.bit(9)
+    case.write(ONE, [ZERO], [a])
+    case.read(ONE, [ZERO])
+    case.write(ONE, [ZERO], [b])
+    case.read(X, [ZERO])
+    case.read((a[0], 1), [ONE])
+    case.read((1, b[0]), [ZERO])
+    yield through_memcase("ports-joined-symbolic", case.bytes(), "an enable that is X under some assignments")
+
+
+def ports_apart():
+    """A read replaces its own port's word and no other."""
+    case = CaseFile(2, 2)
+    for location in range(4):
+        case.write(ONE, number_bits(location, 2), number_bits(3 - location, 2))
+    for port in range(PORTS):
+        case.read(ONE, number_bits(port, 2), port)
+    for port in range(PORTS):
+        case.read(ZERO, bits("00"), port)
+    case.read(X, bits("11"), 2)
+    for port in range(PORTS):
+        case.read(ZERO, bits("00"), port)
+    yield through_memcase("ports-apart", case.bytes(), "four ports hold four words")

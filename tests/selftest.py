@@ -24,6 +24,7 @@ import reference
 import rowcases
 import storedcases
 import tables
+import wrongreads
 from casefile import CaseFile, NotACaseFile, ONE, X, ZERO, parse
 from randomcases import Random
 from reference import memcase, printed, run_case
@@ -43,7 +44,8 @@ class Paper(unittest.TestCase):
     def test_rulings(self):
         expected = {"01": ["read 1:1"], "02": ["read 1:0"], "03": ["read 1:1"], "04": ["read 1:1"],
                     "05": ["read 1:0"], "06": ["read 1:0"], "07": ["read 1:1"], "08": ["read 1:1"],
-                    "09": ["read 1:1"], "10": ["read 1:1"], "11": ["check 1", "check 0"]}
+                    "09": ["read 1:1"], "10": ["read 1:1"], "10-last": ["read 1:0", "read 1:0"],
+                    "11": ["check 1", "check 0"]}
         for number, what, script in rowcases.RULINGS:
             with self.subTest(what):
                 self.assertEqual(read_lines(rowcases.ruling_case(script)), expected[number])
@@ -75,10 +77,12 @@ class Paper(unittest.TestCase):
         self.assertEqual(refusal(CaseFile().bytes() + b"\0"), 12)
         self.assertEqual(refusal(CaseFile().bytes(), text_bytes=5), 13)
         self.assertEqual(run_case(CaseFile().bytes(), text_bytes=6).text, "end 0\n")
+        read.read(ONE, [ZERO], 4)
+        self.assertEqual(refusal(read.bytes()), 14)
 
     def test_every_row_is_stored(self):
         found = {case.row for case in storedcases.all_cases()}
-        self.assertEqual(found, {0, 1, 2, 5, 6, 7, 8, 9, 10, 11, 12, 13})
+        self.assertEqual(found, {0, 1, 2, 5, 6, 7, 8, 9, 10, 11, 12, 13, 14})
 
 
 class Tables(unittest.TestCase):
@@ -150,29 +154,53 @@ def new_parts(conditions, table, seen, made):
     made.append(table)
 
 
+def tiny_case(seed):
+    return randomcases.without_refusals(randomcases.tiny(Random(seed)))
+
+
+def has_differences(case):
+    return bool(plain.differences(run_case(case.bytes()), case.n, case.w))
+
+
 class PlainRuns(unittest.TestCase):
-    def test_reads_and_checks_are_exact(self):
-        reads = checks = 0
+    def test_reads_ports_and_checks_are_exact(self):
+        reads = checks = held = 0
         for seed in range(400):
-            case = randomcases.without_refusals(randomcases.tiny(Random(seed)))
+            case = tiny_case(seed)
             outcome = run_case(case.bytes())
             self.assertEqual(plain.differences(outcome, case.n, case.w), [], seed)
             reads += sum(event.kind == calls.READ for event in outcome.events)
             checks += sum(event.kind == calls.CHECK for event in outcome.events)
+            held += sum(word != [(outcome.conditions.true,) * 2] * case.w for word in outcome.memory.ports)
         self.assertGreater(reads, 200)
         self.assertGreater(checks, 100)
+        self.assertGreater(held, 60)
+
+    def test_stored_ports_are_exact(self):
+        for case in [*rowcases.ports(), *rowcases.rulings()]:
+            outcome = run_case(case.data)
+            self.assertEqual(plain.differences(outcome, *case.data[:2]), [], case.name)
+
+    def test_wrong_reads_are_found(self):
+        for wrong in wrongreads.WRONG_WORDS:
+            with planted(calls.Memory, "read", wrong):
+                self.assertTrue(any(has_differences(tiny_case(seed)) for seed in range(300)), wrong.__name__)
 
     def test_one_run_after_another(self):
         """Runs kept together by their contents say the same as all runs one by one."""
-        for seed in range(60):
-            case = randomcases.without_refusals(randomcases.tiny(Random(seed)))
-            if case.n * case.w > 2 or len(case.accesses) > 4:
+        again = 0
+        for seed in range(300):
+            case = tiny_case(seed)
+            if case.w > 1 or len(case.accesses) > 6:
                 continue
             outcome = run_case(case.bytes())
             for assignment in plain.user_assignments(outcome.conditions):
                 events = [plain.plain_event(event, assignment) for event in outcome.events]
                 self.assertEqual(plain.run_states(events, case.n, case.w),
                                  plain.run_choices(events, case.n, case.w))
+            ports = [event.port for event in outcome.events if event.kind == calls.READ]
+            again += len(ports) - len(set(ports))
+        self.assertGreater(again, 10)
 
 
 # Wrong programs: a class, the name of a function of it, and the wrong function, which
@@ -193,10 +221,6 @@ def soft_replaces(_right, self, address):
 def x_address_reads_as_ones(right, self, address):
     true = self.conditions.true
     return right(self, [(true, 0) if pair == (true, true) else pair for pair in address])
-
-
-def enable_ignored(_right, self, _control, address):
-    return self.look(address)
 
 
 def x_write_ignored(right, self, control, address, data):
@@ -237,13 +261,30 @@ def one_entry_more(_right, self):
 
 
 def no_row_6(_right, conditions, access):
-    kind, control, address, data = access
     try:
         table = conditions.tables.__getitem__
-        return (tuple(map(table, control)), [(table(h), table(l)) for h, l in address],
-                [(table(h), table(l)) for h, l in data])
+        return (tuple(map(table, access.control)), [(table(h), table(l)) for h, l in access.address],
+                [(table(h), table(l)) for h, l in access.data])
     except IndexError:
         raise tables.Refused(5) from None
+
+
+def port_after_nodes(right, conditions, access):
+    found = right(conditions, access._replace(port=0))
+    calls.test_port(access.kind, access.port)
+    return found
+
+
+def port_before_bytes(right, reader, n, w):
+    first = reader.data[reader.at:reader.at + 2]
+    if len(first) == 2:
+        calls.test_port(*first)
+    return right(reader, n, w)
+
+
+def ports_start_0(right, self, *arguments):
+    right(self, *arguments)
+    self.ports = [[(0, self.conditions.true)] * self.w] * calls.PORTS
 
 
 def kind_after_bytes(right, self, n, w):
@@ -258,7 +299,7 @@ def lowest_bit_first(right, memory, kind, answer):
 WRONG = [
     (calls.Memory, "look", soft_replaces),
     (calls.Memory, "look", x_address_reads_as_ones),
-    (calls.Memory, "read", enable_ignored),
+    (calls.Memory, "__init__", ports_start_0),
     (calls.Memory, "write", x_write_ignored),
     (calls.Memory, "enter", never_enters),
     (calls.Memory, "assert_", always_entered),
@@ -266,18 +307,65 @@ WRONG = [
     (tables.Conditions, "add", no_last_node),
     (tables.Conditions, "ite", high_part_first),
     (reference, "as_tables", no_row_6),
+    (reference, "as_tables", port_after_nodes),
     (reference, "read_access", kind_after_bytes),
+    (reference, "read_access", port_before_bytes),
     (reference, "line_parts", lowest_bit_first),
-]
+] + [(calls.Memory, "read", wrong) for wrong in wrongreads.WRONG_READS]
 
 
 def index_nodes_taken(_right, nodes, words):
     return any(word >= len(nodes) for word in words)
 
 
-def nothing_cleared(right, call, record, words, entries):
-    left = right(call, record, words, entries)
+def nothing_cleared(right, call, record, words, entries, ports):
+    left = right(call, record, words, entries, ports)
     return left._replace(nodes=list(words)) if left.number else left
+
+
+def refused_read_replaces(right, call, record, words, entries, ports):
+    left = right(call, record, words, entries, ports)
+    return left._replace(ports=[1] * len(ports)) if left.number and call.kind == calls.READ else left
+
+
+def fresh_leaves_ports(right, call, record, words, entries, ports):
+    left = right(call, record, words, entries, ports)
+    return left._replace(ports=ports) if call.kind == calls.FRESH else left
+
+
+def fresh_of_held_words(right, call, record, words, entries, ports):
+    """Fresh writes the held words alone."""
+    left = right(call, record, words, entries, ports)
+    if call.kind != calls.FRESH or left.number:
+        return left
+    after = list(ports)
+    for port in range(calls.PORTS):
+        after[calls.held_places(port, left.record.w)] = [1] * (2 * left.record.w)
+    return left._replace(ports=after)
+
+
+def other_ports_untested(right, self):
+    ports = self.ports
+    self.ports = list(ports)
+    for port in set(range(calls.PORTS)) - {self.call.port}:
+        self.ports[calls.held_places(port, self.record.w)] = [1] * (2 * self.record.w)
+    try:
+        right(self)
+    finally:
+        self.ports = ports
+
+
+def port_before_row_4(right, self):
+    calls.test_port(self.call.kind, self.call.port)
+    right(self)
+
+
+def port_after_row_5(right, self):
+    call = self.call
+    self.call = call._replace(port=0)
+    right(self)
+    self.call = call
+    calls.test_port(call.kind, call.port)
 
 
 def conditions_kept(right, self):
@@ -295,8 +383,14 @@ WRONG_CALLS = [
     (tables.Conditions, "add", no_last_node),
     (calls, "row_5", index_nodes_taken),
     (calls, "list_capacity", one_entry_less),
+    (calls.Access, "test", other_ports_untested),
+    (calls.Access, "test", port_before_row_4),
+    (calls.Access, "test", port_after_row_5),
     (callscript, "run", nothing_cleared),
-]
+    (callscript, "run", refused_read_replaces),
+    (callscript, "run", fresh_leaves_ports),
+    (callscript, "run", fresh_of_held_words),
+] + [(calls.Memory, "read", wrong) for wrong in wrongreads.WRONG_READS]
 
 
 @contextmanager
@@ -328,13 +422,20 @@ class WrongPrograms(unittest.TestCase):
                 with planted(place, name, wrong):
                     self.assertTrue(any(memcase(data) != text for data, text in expected), wrong.__name__)
 
-
     def test_stored_calls_find_each(self):
         """Each wrong program of the calls answers or leaves something else somewhere."""
-        right = memorycalls.script(memorycalls.SMALL).output()
+        right = calls_output()
         for place, name, wrong in WRONG_CALLS:
             with planted(place, name, wrong):
-                self.assertTrue(memorycalls.script(memorycalls.SMALL).output() != right, wrong.__name__)
+                self.assertNotEqual(calls_output(), right, wrong.__name__)
+
+
+def calls_output():
+    """What the small stored calls print, or what is said where one is not as it was meant."""
+    try:
+        return memorycalls.script(memorycalls.SMALL).output()
+    except AssertionError as error:
+        return str(error)
 
 
 def derived(case):
@@ -372,10 +473,20 @@ class Texts(unittest.TestCase):
                     start + "node a = (8 0 1)\nread enable=a address=0\n", start + "write enable=1 address=0\n",
                     start + "check b=70000 address=0 data=0\n", start + "jump\n", start + start,
                     start + "read enable=1 address=0\nnode a = (8 0 1)\n", start + "node A = (8 0 1)\n",
-                    start + "node a = (8 0 1)\nnode a = (8 1 0)\n", "memory n=256 w=1\n"]
+                    start + "node a = (8 0 1)\nnode a = (8 1 0)\n", "memory n=256 w=1\n",
+                    start + "read port=256 enable=1 address=0\n", start + "read port=a enable=1 address=0\n",
+                    start + "read port=1 port=1 enable=1 address=0\n", start + "write port=1 enable=1 address=0 data=0\n"]
         for text in mistakes:
             with self.assertRaisesRegex(casetext.Mistake, "line %d: " % text.count("\n")):
                 casetext.encode(text)
+
+    def test_port(self):
+        """Port 0 where it is left out; any that a byte can say, and decode prints it."""
+        read = "enable=1 address=0\n"
+        data = casetext.encode("memory n=1 w=1\nread %sread port=3 %sread port=4 %s" % (read, read, read))
+        self.assertEqual([access.port for access in parse(data).accesses], [0, 3, 4])
+        lines = casetext.decode(data).splitlines()[1:]
+        self.assertEqual(lines, ["read port=%d enable=1 address=0" % port for port in (0, 3, 4)])
 
     def test_complement_of_b(self):
         text = "memory n=1 w=1\nnode a = (8 0 1)\nnode c = (8 1 0)\ncheck b=!a address=0 data=0\n"

@@ -129,6 +129,32 @@ class Verdicts(Folders):
             "second: agreed 2, differs 1, hung 0, crashed 0",
         ], simulator("right"), simulator("loses-unknown"))
 
+    def test_ports(self):
+        """One that forgets what a port holds, and one that holds across ports."""
+        self.put_stored("ports-apart", "ports-kept", "ruling-10", "ruling-10-last")
+        self.expect(1, [
+            "case                 first    second",
+            "ports-apart.case     differs  differs",
+            "  first differs from line 9, byte 8",
+            "    memcase  read 1:0 1:0",
+            "    first    read 1:1 1:1",
+            "  second differs from line 9, byte 6",
+            "    memcase  read 1:0 1:0",
+            "    second   read 0:1 0:1",
+            "ports-kept.case      differs  agreed",
+            "  first differs from line 4, byte 8",
+            "    memcase  read 1:0 0:1",
+            "    first    read 1:1 1:1",
+            "ruling-10-last.case  differs  agreed",
+            "  first differs from line 3, byte 8",
+            "    memcase  read 1:0",
+            "    first    read 1:1",
+            "",
+            "5 cases",
+            "first: agreed 2, differs 3, hung 0, crashed 0",
+            "second: agreed 4, differs 1, hung 0, crashed 0",
+        ], simulator("forgets-held-word"), simulator("holds-across-ports"))
+
     def test_hung(self):
         self.expect(1, [
             "case         first    second",
@@ -186,12 +212,12 @@ class Verdicts(Folders):
         self.expect(1, [
             "case                    first    second",
             "example-registers.case  differs  differs",
-            "  first differs from line 10, byte 8",
-            "    memcase  read 1:1 1:1 1:1 1:1",
-            "    first    read 1:0 1:0 1:0 1:0",
-            "  second differs from line 10, byte 8",
-            "    memcase  read 1:1 1:1 1:1 1:1",
-            "    second   read 1:0 1:0 1:0 1:0",
+            "  first differs from line 14, byte 16",
+            "    memcase  read 0:1 1:0 1:1 1:1",
+            "    first    read 0:1 1:0 1:0 1:0",
+            "  second differs from line 14, byte 16",
+            "    memcase  read 0:1 1:0 1:1 1:1",
+            "    second   read 0:1 1:0 1:0 1:0",
             "ruling-01.case          differs  differs",
             "  first differs from line 1, byte 8",
             "    memcase  read 1:1",
@@ -345,7 +371,7 @@ class Lines(unittest.TestCase):
         right = memcase(storedcases.named("example-registers").data).encode("ascii")
         self.assertEqual(arbiter.first_difference(right, right), None)
         lines = right.splitlines(keepends=True)
-        self.assertEqual(len(lines), 11)
+        self.assertEqual(len(lines), 16)
         for number, line in enumerate(lines, 1):
             wrong = b"".join(lines[:number - 1]) + b"?" + line + b"".join(lines[number:])
             self.assertEqual(arbiter.first_difference(right, wrong), (number, line, b"?" + line))

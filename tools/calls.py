@@ -1,10 +1,10 @@
 """The memory over truth tables, and the calls on any words: what each answers and leaves.
 
-A call is given its record, node words and list as they are, whatever stands in them, and
-answers a `Left`: the number of the row that refuses it or 0, its out-word (None where it has
-none to write), and all that it leaves, the buffers that it does not change among them.  Each
-access is built in the paper's order, no step left out, so that nodes are numbered and counted
-as the paper counts them and refusal 9 comes where it must.  Names are the paper's (01).
+A call is given its record, node words, list and port words as they are, whatever stands in
+them, and answers a `Left`: the number of the row that refuses it or 0, its out-word (None where
+it has none to write), and all that it leaves, the buffers that it does not change among them.
+Each access is built in the paper's order, no step left out, so that nodes are numbered and
+counted as the paper counts them and refusal 9 comes where it must.  Names are the paper's (01).
 """
 
 from collections import namedtuple
@@ -12,6 +12,10 @@ from collections import namedtuple
 from tables import TERMINALS, USER_VARIABLE, VARIABLES, Conditions, Refused, is_standard, node_capacity
 
 ENTRY_LIMIT = 4096
+
+# Four ports of 32 words; a port's held word is in the first 2w of its own.
+PORTS = 4
+PORT_WORDS = 32
 
 Record = namedtuple("Record", "n w nodes entries assert_condition check_condition")
 Entry = namedtuple("Entry", "h s address data")
@@ -22,11 +26,12 @@ NAMES = {WRITE: "write", READ: "read", ASSERT: "assert", CHECK: "check", FRESH: 
          VARIABLE: "variable", ITE: "ite"}
 
 # A call's arguments: `control` is the enable's words, or b alone; `other` is what is no slice
-# in the four other calls: n and w; a node and an assignment; a variable; f, g and h.
-Call = namedtuple("Call", "kind control address data other", defaults=((), (), (), ()))
+# in the four other calls: n and w; a node and an assignment; a variable; f, g and h.  `port` is
+# a read's.
+Call = namedtuple("Call", "kind control address data other port", defaults=((), (), (), (), 0))
 
 # What a call answers and leaves; `data` are the words of a read's answer, or the data as lent.
-Left = namedtuple("Left", "number out record nodes list data")
+Left = namedtuple("Left", "number out record nodes list data ports")
 
 
 def in_range(n, w):
@@ -39,6 +44,11 @@ def entry_size(n, w):
 
 def list_capacity(n, w, list_words):
     return min(list_words // entry_size(n, w), ENTRY_LIMIT)
+
+
+def held_places(port, w):
+    """Where a port's held word stands in the port words."""
+    return slice(PORT_WORDS * port, PORT_WORDS * port + 2 * w)
 
 
 def pairs(words):
@@ -58,6 +68,7 @@ class Memory:
         self.conditions = conditions
         self.entry_capacity = list_capacity(n, w, list_words)
         self.entries = []
+        self.ports = [[(conditions.true, conditions.true)] * w] * PORTS
         self.assert_condition = conditions.true
         self.check_condition = conditions.true
 
@@ -117,11 +128,13 @@ class Memory:
         self.enter(control, address, data)
         return len(self.entries) - 1
 
-    def read(self, control, address):
+    def read(self, control, address, port):
+        """The look, the port's word or the union of both, as the enable says; it becomes the port's."""
         c = self.conditions
-        word = self.look(address)
-        enabled = c.and_(control[0], c.not_(control[1]))
-        return [(c.ite(enabled, h, c.true), c.ite(enabled, l, c.true)) for h, l in word]
+        word, held = halves(self.look(address)), halves(self.ports[port])
+        unknown = c.and_(*control)
+        self.ports[port] = pairs([c.ite(c.ite(unknown, r, control[0]), r, p) for r, p in zip(word, held)])
+        return self.ports[port]
 
     def check(self, b, address, data):
         c = self.conditions
@@ -186,15 +199,18 @@ def value(nodes, node, assignment):
 
 
 class Access:
-    """An access on a memory that rows 1 and 2 let pass: rows 3 to 9, and what it leaves."""
+    """An access on a memory that rows 1 and 2 let pass: the rows after them, and what it leaves."""
 
-    def __init__(self, call, record, nodes, node_words, entries):
-        self.call, self.record, self.nodes, self.entries = call, record, nodes, list(entries)
+    def __init__(self, call, record, nodes, node_words, entries, ports):
+        self.call, self.record, self.nodes = call, record, nodes
+        self.entries, self.ports = list(entries), list(ports)
         self.capacity = node_capacity(node_words)
         self.enabled = call.kind in (WRITE, READ)
         self.given = [] if call.kind == READ else call.data
         self.test()
         roots = [*self.arguments(), *set(self.used_entries()), record.assert_condition, record.check_condition]
+        if call.kind == READ:
+            roots += self.held(call.port)
         self.conditions = tables_of(nodes, roots, record.n, self.capacity)
 
     def arguments(self):
@@ -203,27 +219,37 @@ class Access:
     def used_entries(self):
         return self.entries[:self.record.entries * entry_size(self.record.n, self.record.w)]
 
+    def held(self, port):
+        """A port's held word, as its node numbers."""
+        return self.ports[held_places(port, self.record.w)]
+
     def test(self):
-        """Rows 3 to 5."""
-        n, w, _, entries, assert_condition, check_condition = self.record
+        """Rows 3, 4, 14 and 5."""
+        n, w, _, entries, *conditions = self.record
         call = self.call
         if entries > list_capacity(n, w, len(self.entries)):
             raise Refused(3)
-        if row_5(self.nodes, self.used_entries() + [assert_condition, check_condition]):
+        if row_5(self.nodes, self.used_entries() + conditions):
+            raise Refused(3)
+        if call.kind == READ and any(row_5(self.nodes, self.held(port)) for port in range(PORTS)):
             raise Refused(3)
         if len(call.address) != 2 * n or len(call.data) != 2 * w or self.enabled and len(call.control) != 2:
             raise Refused(4)
+        test_port(call.kind, call.port)
         if row_5(self.nodes, self.arguments()):
             raise Refused(5)
 
     def memory(self):
-        """The memory with the entries as they stand in the list; a write reads none of them."""
+        """The memory with the entries as they stand in the list, and with the port of a read; a write
+        reads no entry."""
         record, tables = self.record, self.conditions.tables
         memory = Memory(record.n, record.w, self.conditions, len(self.entries))
         if self.call.kind == WRITE:
             memory.entries = [None] * record.entries
         else:
             memory.entries = [self.entry(place) for place in range(record.entries)]
+        if self.call.kind == READ:
+            memory.ports[self.call.port] = pairs([tables[x] for x in self.held(self.call.port)])
         memory.assert_condition = tables[record.assert_condition]
         memory.check_condition = tables[record.check_condition]
         return memory
@@ -235,20 +261,29 @@ class Access:
         return Entry(h, s, pairs(words[:2 * n]), pairs(words[2 * n:]))
 
     def run(self):
-        """Rows 6 to 9 and the access itself: out-word, record, new node words, list and data."""
+        """Rows 6 to 9 and the access itself: out-word, record, new node words, list, data and ports."""
         memory, tables, call = self.memory(), self.conditions.tables, self.call
         control = tuple(tables[x] for x in call.control)
         address = pairs([tables[x] for x in call.address])
         given = pairs([tables[x] for x in self.given])
         test_pairs(self.conditions, call.kind, control, address, given)
-        answer = do_access(memory, call.kind, control, address, given)
+        answer = do_access(memory, call.kind, control, address, given, call.port)
         out = {WRITE: answer, ASSERT: int(answer == "entered")}.get(call.kind)
         numbers = self.conditions.numbers
-        data = [numbers[x] for x in halves(answer)] if call.kind == READ else list(call.data)
+        data = list(call.data)
+        if call.kind == READ:
+            data = [numbers[x] for x in halves(answer)]
+            self.ports[held_places(call.port, self.record.w)] = [numbers[x] for x in halves(memory.ports[call.port])]
         new = memory.entry_words(self.record.entries)
         start = len(self.used_entries())
         self.entries[start:start + len(new)] = new
-        return out, memory.record(), self.conditions.words(self.record.nodes), self.entries, data
+        return out, memory.record(), self.conditions.words(self.record.nodes), self.entries, data, self.ports
+
+
+def test_port(kind, port):
+    """Row 14."""
+    if kind == READ and port >= PORTS:
+        raise Refused(14)
 
 
 def test_pairs(conditions, kind, control, address, data):
@@ -260,12 +295,12 @@ def test_pairs(conditions, kind, control, address, data):
         raise Refused(7)
 
 
-def do_access(memory, kind, control, address, data):
+def do_access(memory, kind, control, address, data, port):
     """Rows 8 and 9, and the access itself; its answer."""
     if kind == WRITE:
         return memory.write(control, address, data)
     if kind == READ:
-        return memory.read(control, address)
+        return memory.read(control, address, port)
     if kind == ASSERT:
         return memory.assert_(control[0], address, data)
     return memory.check(control[0], address, data)
@@ -303,30 +338,30 @@ def fresh(call, node_words):
     return Record(n, w, 2, 0, 1, 1)
 
 
-def accepted(call, record, words, entries):
+def accepted(call, record, words, entries, ports):
     """What a call leaves that no row refuses."""
+    data = list(call.data)
     if call.kind == FRESH:
         after = fresh(call, len(words))
-        return Left(0, None, after, halves(TERMINALS) + words[6:], list(entries), list(call.data))
+        return Left(0, None, after, halves(TERMINALS) + words[6:], entries, data, [1] * (PORTS * PORT_WORDS))
     if not in_range(record.n, record.w):
         raise Refused(1)
     nodes = store_nodes(record, words)
     if call.kind in (EVALUATE, VARIABLE, ITE):
         out, after, new = node_call(call, record, nodes, len(words))
-        entries, data = list(entries), list(call.data)
     else:
-        out, after, new, entries, data = Access(call, record, nodes, len(words), entries).run()
+        out, after, new, entries, data, ports = Access(call, record, nodes, len(words), entries, ports).run()
     start = 3 * record.nodes
-    return Left(0, out, after, words[:start] + new + words[start + len(new):], entries, data)
+    return Left(0, out, after, words[:start] + new + words[start + len(new):], entries, data, ports)
 
 
-def run(call, record, words, entries):
+def run(call, record, words, entries, ports):
     """What a call answers and leaves.  Raises TooManyVariables where tables do not do."""
-    words = list(words)
+    words, entries, ports = list(words), list(entries), list(ports)
     try:
-        return accepted(call, record, words, entries)
+        return accepted(call, record, words, entries, ports)
     except Refused as refused:
         if refused.number == 9 or refused.number == 8 and call.kind == ASSERT:
             start, end = 3 * record.nodes, 3 * node_capacity(len(words))
             words[start:end] = [0] * (end - start)
-        return Left(refused.number, None, record, words, list(entries), list(call.data))
+        return Left(refused.number, None, record, words, entries, list(call.data), ports)

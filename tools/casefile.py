@@ -15,8 +15,8 @@ X = (1, 1)
 VALUES = {"0": ZERO, "1": ONE, "X": X}
 
 # `control` is a list of one node or two, `address` and `data` are lists of pairs,
-# the lowest bit first as in the file.
-Access = namedtuple("Access", "kind control address data")
+# the lowest bit first as in the file; `port` is a read's.
+Access = namedtuple("Access", "kind control address data port", defaults=(0,))
 
 
 def bits(text):
@@ -33,11 +33,16 @@ def two_bytes(number):
     return bytes((number & 255, number >> 8))
 
 
+def first_bytes(access):
+    """The bytes of an access before its nodes: its kind, and a read's port."""
+    return bytes((access.kind, access.port) if access.kind == READ else (access.kind,))
+
+
 def access_bytes(access):
     nodes = list(access.control)
     for h, l in access.address + access.data:
         nodes += [h, l]
-    return bytes((access.kind,)) + b"".join(two_bytes(node) for node in nodes)
+    return first_bytes(access) + b"".join(two_bytes(node) for node in nodes)
 
 
 def node_bytes(node):
@@ -112,8 +117,8 @@ class CaseFile:
     def write(self, enable, address, data):
         self.accesses.append(Access(WRITE, list(enable), list(address), list(data)))
 
-    def read(self, enable, address):
-        self.accesses.append(Access(READ, list(enable), list(address), []))
+    def read(self, enable, address, port=0):
+        self.accesses.append(Access(READ, list(enable), list(address), [], port))
 
     def assert_(self, b, address, data):
         self.accesses.append(Access(ASSERT, [b], list(address), list(data)))
@@ -165,10 +170,11 @@ def parse(data):
         if kind not in (WRITE, READ, ASSERT, CHECK):
             raise NotACaseFile("byte %d: access %d has the unknown kind %d"
                                % (source.at - 1, number, kind))
+        port = source.number(1, what) if kind == READ else 0
         control = [source.number(2, what) for _ in range(2 if kind in (WRITE, READ) else 1)]
         address = source.pairs(case.n, what)
         data_pairs = source.pairs(0 if kind == READ else case.w, what)
-        case.accesses.append(Access(kind, control, address, data_pairs))
+        case.accesses.append(Access(kind, control, address, data_pairs, port))
     if source.at != len(data):
         raise NotACaseFile("%d bytes after the last access" % (len(data) - source.at))
     return case

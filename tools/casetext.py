@@ -14,7 +14,7 @@ The text has one statement to a line; `#` begins a comment.
     node notx = (8 1 0)         high child.  `node 2 = ..` gives no name; the number
     node 4 = (9 0 x)            must be that of the next node
     write enable=1 address=0 data=1X
-    read enable=x:notx address=x
+    read port=2 enable=x:notx address=x
     assert b=x address=1 data=01
     check b=1 address=!x data=0,x
 
@@ -22,7 +22,8 @@ A node is named by its number or by its name.  A name begins with a small letter
 goes on with letters, digits and `_`.  Numbers may also be those of nodes that an
 earlier access makes.
 
-`b` is a node, or `!x` for the node that is not x.  `enable` is one pair, `address` is n pairs and `data` w pairs, the
+`port` is the read port, 0 to 3, and 0 where it is left out.  `b` is a node, or `!x` for
+the node that is not x.  `enable` is one pair, `address` is n pairs and `data` w pairs, the
 highest bit first, as in the lines that `memcase` prints, with commas between them.
 (In the file the lowest bit is first.)  A pair is one of
 
@@ -46,10 +47,11 @@ from tables import is_standard
 KIND_NAMES = {WRITE: "write", READ: "read", ASSERT: "assert", CHECK: "check"}
 FIELDS = {
     "write": ["enable", "address", "data"],
-    "read": ["enable", "address"],
+    "read": ["port", "enable", "address"],
     "assert": ["b", "address", "data"],
     "check": ["b", "address", "data"],
 }
+LEFT_OUT = {"port": "0"}
 LETTERS = {pair: letter for letter, pair in VALUES.items()}
 NAME = re.compile(r"[a-z][A-Za-z0-9_]*\Z")
 NUMBER = re.compile(r"[0-9]+\Z")
@@ -143,7 +145,7 @@ class Encoder:
         return self.names[text]
 
     def fields(self, word, rest, wanted):
-        """The `key=value` words of a line, which must be exactly those wanted."""
+        """The `key=value` words of a line, which must be those wanted; some may be left out."""
         found = {}
         for item in rest.split():
             key, equals, value = item.partition("=")
@@ -155,9 +157,9 @@ class Encoder:
                 raise Mistake("`%s` twice" % key)
             found[key] = value
         for key in wanted:
-            if key not in found:
+            if key not in found and key not in LEFT_OUT:
                 raise Mistake("`%s` needs `%s=`" % (word, key))
-        return found
+        return {**LEFT_OUT, **found}
 
     def access(self, word, rest):
         fields = self.fields(word, rest, FIELDS[word])
@@ -172,7 +174,7 @@ class Encoder:
         if word == "write":
             self.case.write(control, address, data)
         elif word == "read":
-            self.case.read(control, address)
+            self.case.read(control, address, plain_number(fields["port"], 255, "the port"))
         elif word == "assert":
             self.case.assert_(control, address, data)
         else:
@@ -249,8 +251,10 @@ def shown_access(access):
         control = "enable=" + shown_pairs([tuple(access.control)])
     else:
         control = "b=%d" % access.control[0]
-    line = "%s %s address=%s" % (word, control, shown_pairs(access.address))
-    return line if word == "read" else line + " data=" + shown_pairs(access.data)
+    address = "address=" + shown_pairs(access.address)
+    if word == "read":
+        return "read port=%d %s %s" % (access.port, control, address)
+    return "%s %s %s data=%s" % (word, control, address, shown_pairs(access.data))
 
 
 def decode(data):

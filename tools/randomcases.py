@@ -4,8 +4,8 @@ The generator of random numbers is written out here, so that a seed gives the sa
 file with every release of Python.
 """
 
-from casefile import (Access, CaseFile, ONE, X, ZERO, access_bytes, node_bytes, two_bytes)
-from calls import ASSERT, WRITE
+from casefile import (Access, CaseFile, ONE, X, ZERO, access_bytes, first_bytes, node_bytes, number_bits, two_bytes)
+from calls import ASSERT, PORTS, READ, WRITE
 from reference import run_case
 from tables import USER_VARIABLE, Conditions, TooManyVariables
 
@@ -138,7 +138,19 @@ class Builder:
         self.case.write(self.enable(), self.address(), self.data())
 
     def add_read(self):
-        self.case.read(self.enable(), self.address())
+        """Often by a port that was used, under an enable that is not certainly 1."""
+        used = [access.port for access in self.case.accesses if access.kind == READ]
+        if used and self.rng.chance(60):
+            self.case.read(self.rng.choice([ZERO, X, self.pair()]), self.address(), self.rng.choice(used))
+        else:
+            self.case.read(self.enable(), self.address(), self.rng.below(PORTS))
+
+    def add_held(self):
+        """A word at every location, and words that ports hold."""
+        for location in range(1 << self.case.n):
+            self.case.write(ONE, number_bits(location, self.case.n), self.data())
+        for _ in range(self.rng.between(1, 2)):
+            self.case.read(ONE, self.address(), self.rng.below(PORTS))
 
     def add_check(self):
         self.case.check(self.condition(), self.address(), self.data())
@@ -197,6 +209,8 @@ def tiny(rng):
     """Small enough for all plain runs."""
     builder = Builder(rng, rng.between(1, 2), rng.between(1, 2), rng.between(1, 3),
                       rng.between(1, 5), rng.below(2))
+    if rng.chance(40):
+        builder.add_held()
     builder.add_accesses(rng.between(1, 6))
     return builder.case
 
@@ -204,6 +218,8 @@ def tiny(rng):
 def small(rng):
     builder = Builder(rng, rng.between(1, 3), rng.between(1, 3), rng.between(3, 6),
                       rng.between(2, 12), rng.choice([0, 0, 1, 3]))
+    if rng.chance(30):
+        builder.add_held()
     builder.add_accesses(rng.between(2, 12))
     return builder.case
 
@@ -292,17 +308,34 @@ def extended(rng, case):
     return case.bytes() + bytes(rng.below(256) for _ in range(rng.between(1, 5)))
 
 
+def access_place(case, number):
+    """Where an access begins in the bytes of its case."""
+    return len(case.header_bytes()) + sum(len(access_bytes(access)) for access in case.accesses[:number])
+
+
 def wrong_kind(rng, case):
     if not case.accesses:
         return cut(rng, case)
     at = rng.below(len(case.accesses))
     kind = rng.choice([0, 5, 6, 128, 255, rng.between(1, 4)])
-    place = len(case.header_bytes()) + sum(len(access_bytes(access)) for access in case.accesses[:at])
+    place = access_place(case, at)
     data = bytearray(case.bytes())
     data[place] = kind
     # Often the file ends at the kind or in its access.
     end = rng.choice([len(data), len(data), place + 1, place + 1 + rng.below(8)])
     return bytes(data[:end])
+
+
+def wrong_port(rng, case):
+    """A read of a port that is not there, or of another that is; sometimes with a wrong node, or cut."""
+    enable = rng.choice([ONE, X, (0, 0), (rng.below(len(case.nodes) + 10), 1)])
+    port = rng.choice([PORTS, PORTS + 1, 255, rng.below(256), rng.below(PORTS)])
+    at = rng.below(len(case.accesses) + 1)
+    case.accesses.insert(at, Access(READ, list(enable), [rng.choice([ZERO, ONE, X]) for _ in range(case.n)], [], port))
+    data = case.bytes()
+    if rng.chance(70):
+        return data
+    return data[:access_place(case, at) + 1 + rng.below(6)]
 
 
 def wrong_assert(rng, case):
@@ -345,7 +378,8 @@ def wrong_argument(rng, case):
         return cut(rng, case)
     at = rng.below(len(case.accesses))
     access = bytearray(access_bytes(case.accesses[at]))
-    place = 1 + 2 * rng.below((len(access) - 1) // 2)
+    start = len(first_bytes(case.accesses[at]))
+    place = start + 2 * rng.below((len(access) - start) // 2)
     count = len(case.nodes) + 2
     number = rng.choice([0, 0, 1, count, count - 1, rng.below(count), rng.below(count + 30), 65535])
     access[place:place + 2] = two_bytes(number)
@@ -374,7 +408,7 @@ def any_bytes(rng, _case):
 
 
 DAMAGES = [cut, changed_bytes, changed_bytes, extended, wrong_kind, wrong_size, wrong_node,
-           wrong_argument, wrong_argument, wrong_argument, wrong_assert, wrong_count, any_bytes]
+           wrong_argument, wrong_argument, wrong_argument, wrong_port, wrong_assert, wrong_count, any_bytes]
 
 
 def damaged(rng):

@@ -19,7 +19,7 @@ import argparse
 import sys
 from collections import namedtuple
 
-from calls import ASSERT, CHECK, READ, WRITE, Memory, do_access, in_range, test_pairs
+from calls import ASSERT, CHECK, READ, WRITE, Memory, do_access, in_range, test_pairs, test_port
 from tables import (TABLE_VARIABLES, TERMINALS, USER_VARIABLE, Conditions, Refused, TooManyVariables, is_standard,
                     node_capacity)
 
@@ -28,10 +28,13 @@ LIST_WORDS = 16384
 TEXT_BYTES = 65536
 INPUT_BYTES = 65536
 
+# An access of a file: node numbers, `control` being one or two; `port` is a read's, else 0.
+FileAccess = namedtuple("FileAccess", "kind port control address data")
+
 # An access with tables in place of node numbers.  `control` is the enable's pair
 # or the condition b; `answer` is a read's list of pairs, a write's place, an
 # assert's word `entered` or `kept`, and None for a check.
-Event = namedtuple("Event", "kind control address data answer")
+Event = namedtuple("Event", "kind port control address data answer")
 
 # `text` is None in a refused case; `refusal` and `after` are None in an accepted one.
 # `lines` are those written, also before a refusal.
@@ -85,22 +88,22 @@ def load_nodes(n, nodes, node_words):
 
 
 def read_access(reader, n, w):
-    """The kind and the node numbers of an access; (kind, control, address, data)."""
+    """Rows 11 and 10, and the next access."""
     kind = reader.byte()
     if kind not in (WRITE, READ, ASSERT, CHECK):
         raise Refused(11)
+    port_bytes = 1 if kind == READ else 0
     control_nodes = 2 if kind in (WRITE, READ) else 1
     data_bits = 0 if kind == READ else w
-    reader.need(2 * (control_nodes + 2 * n + 2 * data_bits))
+    reader.need(port_bytes + 2 * (control_nodes + 2 * n + 2 * data_bits))
+    port = reader.byte() if port_bytes else 0
     control = [reader.number() for _ in range(control_nodes)]
-    address = reader.pairs(n)
-    data = reader.pairs(data_bits)
-    return kind, control, address, data
+    return FileAccess(kind, port, control, reader.pairs(n), reader.pairs(data_bits))
 
 
 def as_tables(conditions, access):
-    """Rows 5, 6 and 7, and the access with tables in place of node numbers."""
-    kind, control, address, data = access
+    """Rows 14, 5, 6 and 7; control, address and data with tables in place of node numbers."""
+    test_port(access.kind, access.port)
 
     def table(number):
         if number >= conditions.count():
@@ -110,10 +113,10 @@ def as_tables(conditions, access):
             raise Refused(5)
         return found
 
-    control = tuple(table(number) for number in control)
-    address = [(table(h), table(l)) for h, l in address]
-    data = [(table(h), table(l)) for h, l in data]
-    test_pairs(conditions, kind, control, address, data)
+    control = tuple(table(number) for number in access.control)
+    address = [(table(h), table(l)) for h, l in access.address]
+    data = [(table(h), table(l)) for h, l in access.data]
+    test_pairs(conditions, access.kind, control, address, data)
     return control, address, data
 
 
@@ -178,11 +181,11 @@ class Case:
         """Read, do and print one access."""
         memory = self.memory
         access = read_access(reader, memory.n, memory.w)
-        kind = access[0]
+        kind, port = access.kind, access.port
         control, address, data = as_tables(memory.conditions, access)
-        answer = do_access(memory, kind, control, address, data)
+        answer = do_access(memory, kind, control, address, data, port)
         text.put(memory.conditions, line_parts(memory, kind, answer))
-        self.events.append(Event(kind, control, address, data, answer))
+        self.events.append(Event(kind, port, control, address, data, answer))
 
     def outcome(self, text, refusal):
         memory = self.memory

@@ -1,7 +1,7 @@
 /*
  * The paper's example, once by the calls and once as a case file. Both texts must be the paper's, and
- * both must leave the same record, node words and list words; else the program says what differs and
- * its status is 1.
+ * both must leave the same record, node words and list words; then a read that is not enabled must give
+ * again what its port holds. Else the program says what differs and its status is 1.
  */
 #include <stdio.h>
 #include <string.h>
@@ -21,7 +21,7 @@ static const uint8_t CASE[] = {
     0x02, 0x00, 0x08, 0x00, 0x00, 0x01, 0x00, 0x08, 0x01, 0x00, 0x00, 0x00,       /* nodes 2 and 3 */
     0x03, 0x00,                                                                   /* three accesses */
     0x01, 0x01, 0x00, 0x00, 0x00, 0x02, 0x00, 0x03, 0x00, 0x01, 0x00, 0x00, 0x00, /* write */
-    0x02, 0x01, 0x00, 0x00, 0x00, 0x00, 0x00, 0x01, 0x00,                         /* read */
+    0x02, 0x00, 0x01, 0x00, 0x00, 0x00, 0x00, 0x00, 0x01, 0x00,                   /* read by port 0 */
     0x04, 0x01, 0x00, 0x00, 0x00, 0x01, 0x00, 0x01, 0x00, 0x00, 0x00,             /* check */
 };
 
@@ -30,6 +30,7 @@ struct memory {
     uint32_t record[MD_RECORD];
     uint32_t nodes[NODE_WORDS];
     uint32_t list[LIST_WORDS];
+    uint32_t ports[MD_PORTS];
     char text[TEXT_BYTES];
     size_t length;
 };
@@ -88,7 +89,7 @@ static void by_calls(struct memory *m)
     uint32_t symbolic[2];
     uint32_t answer[2] = {0, 0};
 
-    accept("fresh", md_fresh(m->record, 1, 1, m->nodes, NODE_WORDS));
+    accept("fresh", md_fresh(m->record, 1, 1, m->nodes, NODE_WORDS, m->ports));
     accept("variable", md_variable(m->record, m->nodes, NODE_WORDS, 8, &a));
     accept("ite", md_ite(m->record, m->nodes, NODE_WORDS, a, 0, 1, &not_a));
 
@@ -98,7 +99,7 @@ static void by_calls(struct memory *m)
     put(m, "write ");
     put_number(m, place);
 
-    accept("read", md_read(m->record, m->nodes, NODE_WORDS, m->list, LIST_WORDS, one, 2, zero, 2, answer, 2));
+    accept("read", md_read(m->record, m->nodes, NODE_WORDS, m->list, LIST_WORDS, m->ports, 0, one, 2, zero, 2, answer, 2));
     put(m, "\nread ");
     put_condition(m, answer[0]);
     put(m, ":");
@@ -113,6 +114,26 @@ static void by_calls(struct memory *m)
     put(m, "\n");
 }
 
+static void hold_words(const char *name, const uint32_t *one, const uint32_t *other, size_t length)
+{
+    if (memcmp(one, other, length * sizeof *one) != 0) {
+        printf("%s: the words differ\n", name);
+        failures++;
+    }
+}
+
+/* Port 0 holds what was read by it, and gives it again to a read that is not enabled. */
+static void hold_port(struct memory *m)
+{
+    static const uint32_t zero[2] = {0, 1};
+    uint32_t answer[2] = {0, 0};
+    uint32_t held[2];
+
+    memcpy(held, m->ports, sizeof held);
+    accept("read", md_read(m->record, m->nodes, NODE_WORDS, m->list, LIST_WORDS, m->ports, 0, zero, 2, zero, 2, answer, 2));
+    hold_words("port 0", answer, held, 2);
+}
+
 static void by_case(struct memory *m)
 {
     uint64_t count = 0;
@@ -125,14 +146,6 @@ static void hold_text(const char *way, const struct memory *m)
 {
     if (m->length != strlen(EXPECTED) || memcmp(m->text, EXPECTED, m->length) != 0) {
         printf("%s: the text is not the paper's, but:\n%.*s", way, (int)m->length, m->text);
-        failures++;
-    }
-}
-
-static void hold_words(const char *name, const uint32_t *one, const uint32_t *other, size_t length)
-{
-    if (memcmp(one, other, length * sizeof *one) != 0) {
-        printf("%s: the calls and the case file leave different words\n", name);
         failures++;
     }
 }
@@ -163,6 +176,7 @@ int main(void)
     hold_words("nodes", calls.nodes, whole.nodes, NODE_WORDS);
     hold_words("list", calls.list, whole.list, LIST_WORDS);
     hold_values(&calls);
+    hold_port(&calls);
 
     printf("%.*s", (int)whole.length, whole.text);
     return failures != 0;

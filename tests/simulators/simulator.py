@@ -9,8 +9,10 @@ import signal
 import sys
 import time
 
-sys.path.insert(0, os.path.join(os.path.dirname(os.path.abspath(__file__)), os.pardir, os.pardir, "tools"))
+sys.path.insert(0, os.path.join(os.path.dirname(os.path.abspath(__file__)), os.pardir))
 
+import wrongreads
+from calls import Memory
 from reference import memcase
 
 
@@ -30,6 +32,21 @@ def right():
 def loses_unknown():
     """A bit that is read as unknown is printed as 1."""
     write(right_text().replace(" 1:1", " 1:0"))
+
+
+def with_read(wrong):
+    """The text of a simulator whose read is a wrong one."""
+    read = Memory.read
+    Memory.read = lambda *arguments: wrong(read, *arguments)
+    right()
+
+
+def forgets_held_word():
+    with_read(wrongreads.forgets_held_word)
+
+
+def holds_across_ports():
+    with_read(wrongreads.holds_across_ports)
 
 
 def hangs():
@@ -102,9 +119,10 @@ def writes_nothing():
     sys.stdin.buffer.read()
 
 
-WAYS = [right, loses_unknown, hangs, hangs_after_text, hangs_with_output_closed, leaves_child, ends_by_signal,
-        ends_with_status, ends_with_status_after_text, writes_without_end, complains, complains_without_end,
-        breaks_off, refuses_after_text, reads_nothing, writes_nothing]
+WAYS = [right, loses_unknown, forgets_held_word, holds_across_ports, hangs, hangs_after_text,
+        hangs_with_output_closed, leaves_child, ends_by_signal, ends_with_status, ends_with_status_after_text,
+        writes_without_end, complains, complains_without_end, breaks_off, refuses_after_text, reads_nothing,
+        writes_nothing]
 
 
 if __name__ == "__main__":

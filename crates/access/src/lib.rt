@@ -1,9 +1,9 @@
 // The accesses, without rows 1 to 8: what each builds over a store, a list and arguments that are already tested.
 ghost use mathlib.Core.Path.{_≡_};
 ghost use Prim.Native.Nat.{_*_, _<_, _≤_};
-ghost use lib.ListN.{length};
+ghost use lib.ListN.{length, getD};
 ghost use Rattle.conditions.specs.Contract.{Sound, Did};
-ghost use Rattle.model.specs.Access.{Certain, Write, EachHalf, maskHalf, Read, insideHalf, Inside};
+ghost use Rattle.model.specs.Access.{Certain, Write, EachHalf, holdHalf, Read, insideHalf, Inside};
 ghost use Rattle.access.specs.Contract.{Nodes, WordDid, MarksDid, shape, Looks};
 use conditions::Built;
 use conditions::Store;
@@ -62,23 +62,48 @@ pub fn write_marks(
     }
 }
 
-// Ite(e, r, 1)
-fn mask_half(words: &mut [u32], table: &mut Table, s: Store, e: u32, r: DataNode) -> Built
-    requires { ⌜ Sound (now words) (now table) s × (e < s .count) × (r .0 < s .count) ⌝ }
-    ensures { λ b. ⌜ Did s (now (words .exit)) (now (table .exit)) b (maskHalf e (r .0) (now (words .entry)) s) ⌝ }
+// t = Ite(S, r, e.h), then Ite(t, r, p)
+fn hold_half(
+    words: &mut [u32],
+    table: &mut Table,
+    s: Store,
+    unknown: u32,
+    e: ControlNode,
+    p: DataNode,
+    r: DataNode,
+) -> Built
+    requires { ⌜ Sound (now words) (now table) s × (unknown < s .count) × (e .0 < s .count) × (p .0 < s .count) × (r .0 < s .count) ⌝ }
+    ensures { λ b. ⌜ Did s (now (words .exit)) (now (table .exit)) b (holdHalf unknown (e .0) (p .0) (r .0) (now (words .entry)) s) ⌝ }
 {
-    conditions::ite(words, table, s, e, r.0, 1)
+    let t = conditions::ite(words, table, s, unknown, r.0, e.0);
+    conditions::ite(words, table, t.store, t.node, r.0, p.0)
 }
 
-// Each half of a word becomes Ite(e, r, 1).
-fn mask(words: &mut [u32], table: &mut Table, s: Store, e: u32, word: &mut [u32]) -> Store
-    requires { ⌜ Sound (now words) (now table) s × (e < s .count) × Nodes (s .count) (now word) ⌝ }
-    ensures { λ u. ⌜ WordDid s (now (words .exit)) (now (table .exit)) u (now (word .exit)) (EachHalf (λ k. maskHalf e) (length (now (word .entry))) (now (word .entry)) (now (words .entry)) s) ⌝ }
+// Each half of a look, beside the half that the port holds.
+fn hold(
+    words: &mut [u32],
+    table: &mut Table,
+    s: Store,
+    unknown: u32,
+    e: ControlNode,
+    held: &[u32],
+    word: &mut [u32],
+) -> Store
+    requires { ⌜ Sound (now words) (now table) s × (unknown < s .count) × (e .0 < s .count) × (length (now held) ≡ length (now word)) × Nodes (s .count) (now held) × Nodes (s .count) (now word) ⌝ }
+    ensures { λ u. ⌜ WordDid s (now (words .exit)) (now (table .exit)) u (now (word .exit)) (EachHalf (λ k. holdHalf unknown (e .0) (getD (now (held .entry)) k 0)) (length (now (word .entry))) (now (word .entry)) (now (words .entry)) s) ⌝ }
 {
     let mut u = s;
     let mut k = 0;
     while k < word.len() {
-        let b = mask_half(words, table, u, e, DataNode(word[k]));
+        let b = hold_half(
+            words,
+            table,
+            u,
+            unknown,
+            e,
+            DataNode(held[k]),
+            DataNode(word[k]),
+        );
         u = b.store;
         word[k] = b.node;
         k += 1;
@@ -124,7 +149,7 @@ pub fn inside(words: &mut [u32], table: &mut Table, s: Store, x: &[u32], y: &[u3
     b
 }
 
-// The word of a read, into a word.
+// The word of a read, into a word: the look, the word that its port holds, or both, as the enable says.
 pub fn read_word(
     words: &mut [u32],
     table: &mut Table,
@@ -135,12 +160,13 @@ pub fn read_word(
     list: &[u32],
     c: ControlPair,
     address: &[u32],
+    held: &[u32],
     word: &mut [u32],
 ) -> Store
-    requires { ⌜ Sound (now words) (now table) s × Looks n w entries (s .count) (now list) (now address) × (length (now word) ≡ 2 * w) × (c .h .0 < s .count) × (c .l .0 < s .count) ⌝ }
-    ensures { λ u. ⌜ WordDid s (now (words .exit)) (now (table .exit)) u (now (word .exit)) (Read (shape n w entries) (now (list .entry)) (c .h .0) (c .l .0) (now (address .entry)) (now (words .entry)) s) ⌝ }
+    requires { ⌜ Sound (now words) (now table) s × Looks n w entries (s .count) (now list) (now address) × (length (now word) ≡ 2 * w) × (c .h .0 < s .count) × (c .l .0 < s .count) × (length (now held) ≡ 2 * w) × Nodes (s .count) (now held) ⌝ }
+    ensures { λ u. ⌜ WordDid s (now (words .exit)) (now (table .exit)) u (now (word .exit)) (Read (shape n w entries) (now (list .entry)) (now (held .entry)) (c .h .0) (c .l .0) (now (address .entry)) (now (words .entry)) s) ⌝ }
 {
     let t = look(words, table, s, n, w, entries, list, address, word);
-    let e = certain(words, table, t, c);
-    mask(words, table, e.store, e.node, word)
+    let x = conditions::and(words, table, t, c.h.0, c.l.0);
+    hold(words, table, x.store, x.node, c.h, held, word)
 }

@@ -13,13 +13,13 @@ fn joined(low: u32, high: u32) -> u64 {
     low as u64 + 4294967296 * (high as u64)
 }
 
-// A call that is lent no list; b, c and d are n and w, a node and the halves of an assignment, a variable, or f, g and h.
-pub fn node_call(x: Item, r: [u32; 6], nodes: &mut [u32]) -> Done {
+// A call that is lent no list, Fresh the ports; b, c and d are n and w, a node and the halves of an assignment, a variable, or f, g and h.
+pub fn node_call(x: Item, r: [u32; 6], nodes: &mut [u32], ports: &mut [u32; 128]) -> Done {
     let mut record = r;
     let mut out: u32 = 7;
     let kind = x.kind;
     let row = match kind {
-        5 => capi::md_fresh(&mut record, x.b, x.c, nodes),
+        5 => capi::md_fresh(&mut record, x.b, x.c, nodes, ports),
         6 => capi::md_evaluate(&record, nodes, x.b, joined(x.c, x.d), &mut out),
         7 => capi::md_variable(&mut record, nodes, x.b, &mut out),
         _ => capi::md_ite(&mut record, nodes, x.b, x.c, x.d, &mut out),
@@ -27,22 +27,23 @@ pub fn node_call(x: Item, r: [u32; 6], nodes: &mut [u32]) -> Done {
     Done { row, out, record }
 }
 
-// A write or a read.
+// A write, or a read at the port f.
 fn enabled(
-    kind: u32,
+    x: Item,
     r: [u32; 6],
     nodes: &mut [u32],
     list: &mut [u32],
+    ports: &mut [u32; 128],
     enable: &[u32],
     address: &[u32],
     data: &mut [u32],
 ) -> Done {
     let mut record = r;
     let mut out: u32 = 7;
-    let row = if kind == 1 {
+    let row = if x.kind == 1 {
         capi::md_write(&mut record, nodes, list, enable, address, data, &mut out)
     } else {
-        capi::md_read(&mut record, nodes, list, enable, address, data)
+        capi::md_read(&mut record, nodes, list, ports, x.f, enable, address, data)
     };
     Done { row, out, record }
 }
@@ -73,6 +74,7 @@ pub fn access(
     r: [u32; 6],
     nodes: &mut [u32],
     list: &mut [u32],
+    ports: &mut [u32; 128],
     enable: &[u32],
     address: &[u32],
     data: &mut [u32],
@@ -82,10 +84,11 @@ pub fn access(
     let d = length(x.e, data.len());
     if x.kind < 3 {
         return enabled(
-            x.kind,
+            x,
             r,
             nodes,
             list,
+            ports,
             &enable[..e],
             &address[..a],
             &mut data[..d],

@@ -18,18 +18,18 @@ use Rattle.capi.specs.Words.{recordIn, wordsOf}
 use Rattle.capi.specs.Contract.{numberOf, outOf, left, leftBy, called, evaluatedBy, evaluated, freshed}
 
 -- a call of memory from the record m, which the words r are, to m′, of which r′ are the words; its answer x is y
-pub call-is : {A : Type 0} (g : A → Answer) {x y : A} (c : Call) {m m′ : Record} {r′ w′ l′ : List ℕ} (r w l a : List ℕ) (v : ℕ)
+pub call-is : {A : Type 0} (g : A → Answer) {x y : A} (c : Call) {m m′ : Record} {r′ w′ l′ ps′ : List ℕ} (r w l ps a : List ℕ) (v : ℕ)
     → x ≡ y
     → recordOf m ≡ recordIn r
-    → Answered c (stateOf m w l) (stateOf m′ w′ l′) (g x)
+    → Answered c (stateOf m w l ps) (stateOf m′ w′ l′ ps′) (g x)
     → r′ ≡ wordsOf (recordOf m′)
-    → left (numberOf (g y)) r′ w′ l′ (answerWords (g y) a) (outOf (g y) v) ≡ called c r w l a v
+    → left (numberOf (g y)) r′ w′ l′ ps′ (answerWords (g y) a) (outOf (g y) v) ≡ called c r w l ps a v
 unfolding called
-call-is g {x} {y} c {m} {m′} {r′} {w′} {l′} r w l a v e i n o =
-    ap (λ (z : List ℕ). left (numberOf (g y)) z w′ l′ (answerWords (g y) a) (outOf (g y) v)) o
-    ∙ sym (ap (λ (z : _). leftBy (record { answer = g z; after = stateOf m′ w′ l′ }) a v) e)
+call-is g {x} {y} c {m} {m′} {r′} {w′} {l′} {ps′} r w l ps a v e i n o =
+    ap (λ (z : List ℕ). left (numberOf (g y)) z w′ l′ ps′ (answerWords (g y) a) (outOf (g y) v)) o
+    ∙ sym (ap (λ (z : _). leftBy (record { answer = g z; after = stateOf m′ w′ l′ ps′ }) a v) e)
     ∙ sym (ap (λ (z : Result). leftBy z a v) n)
-    ∙ ap (λ (z : model.Record). leftBy (step c (record { rec = z; words = w; list = l })) a v) i
+    ∙ ap (λ (z : model.Record). leftBy (step c (record { rec = z; words = w; list = l; ports = ps })) a v) i
 
 -- evaluate writes no record back
 pub evaluate-is : {A : Type 0} (g : A → Answer) {x y : A} (f φ : ℕ) {m m′ : Record} (r w : List ℕ) (v : ℕ)
@@ -38,7 +38,7 @@ pub evaluate-is : {A : Type 0} (g : A → Answer) {x y : A} (f φ : ℕ) {m m′
     → AnswersNoList (evaluate f φ) m w m′ w (g x)
     → (numberOf (g y), outOf (g y) v) ≡ evaluated f φ r w v
 unfolding evaluated
-evaluate-is g f φ r w v e i n = ap evaluatedBy (call-is g (nodeCall (evaluate f φ)) r w [] [] v e i (n []) refl)
+evaluate-is g f φ r w v e i n = ap evaluatedBy (call-is g (nodeCall (evaluate f φ)) r w [] [] [] v e i (n [] []) refl)
 
 -- the number that a truth value is
 as-number : (t : Bool) → boolByte t ≡ cond t 1 0
@@ -52,33 +52,33 @@ pub value-is : {x : ValueAnswer} {b : Bool} (f φ : ℕ) {m m′ : Record} (r w 
     → (0, boolByte b) ≡ evaluated f φ r w v
 value-is {b = b} f φ r w v e i n = ap (λ (z : ℕ). (0, z)) (as-number b) ∙ evaluate-is valueAnswer f φ r w v e i n
 
--- a read, and its answer words
-pub read-is : {x : ReadAnswer} (y : ReadAnswer) {m m′ : Record} {r′ w′ a′ : List ℕ} (r w l e d a : List ℕ)
+-- a read, its port and its answer words
+pub read-is : {x : ReadAnswer} (y : ReadAnswer) {m m′ : Record} {r′ w′ ps′ a′ : List ℕ} (r w l ps : List ℕ) (p : ℕ) (e d a : List ℕ)
     → x ≡ y
     → recordOf m ≡ recordIn r
-    → ReadAnswers m w l e d a m′ w′ a′ x
+    → ReadAnswers m w l ps p e d a m′ w′ ps′ a′ x
     → r′ ≡ wordsOf (recordOf m′)
-    → left (numberOf (readAnswer y a′)) r′ w′ l a′ 0 ≡ called (access (read e d a)) r w l a 0
-read-is reads.Filled {a′ = a′} r w l e d a p i n o = call-is (λ (z : ReadAnswer). readAnswer z a′) (access (read e d a)) r w l a 0 p i (n .is) o
-read-is {x} (reads.Refused k) {r′ = r′} {w′ = w′} {a′ = a′} r w l e d a p i n o =
-    ap (λ (z : List ℕ). left k r′ w′ l z 0) (n .leaves ∙ ap (λ (z : ReadAnswer). answerWords (readAnswer z a′) a) p)
-    ∙ call-is (λ (z : ReadAnswer). readAnswer z a′) (access (read e d a)) r w l a 0 p i (n .is) o
+    → left (numberOf (readAnswer y a′)) r′ w′ l ps′ a′ 0 ≡ called (access (read p e d a)) r w l ps a 0
+read-is reads.Filled {a′ = a′} r w l ps p e d a q i n o = call-is (λ (z : ReadAnswer). readAnswer z a′) (access (read p e d a)) r w l ps a 0 q i (n .is) o
+read-is {x} (reads.Refused k) {r′ = r′} {w′ = w′} {ps′ = ps′} {a′ = a′} r w l ps p e d a q i n o =
+    ap (λ (z : List ℕ). left k r′ w′ l ps′ z 0) (n .leaves ∙ ap (λ (z : ReadAnswer). answerWords (readAnswer z a′) a) q)
+    ∙ call-is (λ (z : ReadAnswer). readAnswer z a′) (access (read p e d a)) r w l ps a 0 q i (n .is) o
 
 number-back : (k : ℕ) → numberOf (numbered k) ≡ k
 number-back zero = refl
 number-back (suc k) = refl
 
 -- Fresh
-pub fresh-is : {A : Type 0} (g : A → Answer) {x y : A} (n k : ℕ) {m m′ : Record} {r′ w′ : List ℕ} (r w : List ℕ)
+pub fresh-is : {A : Type 0} (g : A → Answer) {x y : A} (n k : ℕ) {m m′ : Record} {r′ w′ ps′ : List ℕ} (r w ps : List ℕ)
     → x ≡ y
     → recordOf m ≡ recordIn r
-    → memory.freshed (fresh (recordOf m) n k w) ≡ (g x, recordOf m′, w′)
+    → memory.freshed (fresh (recordOf m) n k w ps) ≡ (g x, recordOf m′, w′, ps′)
     → r′ ≡ wordsOf (recordOf m′)
-    → (numberOf (g y), r′, w′) ≡ freshed n k r w
+    → (numberOf (g y), r′, w′, ps′) ≡ freshed n k r w ps
 unfolding freshed
-fresh-is g {x} {y} n k {m} {m′} {r′} {w′} r w e i f o =
-    ap (λ (z : List ℕ). (numberOf (g y), z, w′)) o
-    ∙ sym (ap (λ (z : _). (numberOf (g z), wordsOf (recordOf m′), w′)) e)
-    ∙ sym (ap (λ (z : Answer × model.Record × List ℕ). (numberOf (z .0), wordsOf (z .1), z .2)) f)
-    ∙ ap (λ (z : ℕ). (z, wordsOf (fresh (recordOf m) n k w .rec), fresh (recordOf m) n k w .words)) (number-back (fresh (recordOf m) n k w .answer))
-    ∙ ap (λ (z : model.Record). (fresh z n k w .answer, wordsOf (fresh z n k w .rec), fresh z n k w .words)) i
+fresh-is g {x} {y} n k {m} {m′} {r′} {w′} {ps′} r w ps e i f o =
+    ap (λ (z : List ℕ). (numberOf (g y), z, w′, ps′)) o
+    ∙ sym (ap (λ (z : _). (numberOf (g z), wordsOf (recordOf m′), w′, ps′)) e)
+    ∙ sym (ap (λ (z : Answer × model.Record × List ℕ × List ℕ). (numberOf (z .0), wordsOf (z .1), z .2, z .3)) f)
+    ∙ ap (λ (z : ℕ). (z, wordsOf (fresh (recordOf m) n k w ps .rec), fresh (recordOf m) n k w ps .words, fresh (recordOf m) n k w ps .ports)) (number-back (fresh (recordOf m) n k w ps .answer))
+    ∙ ap (λ (z : model.Record). (fresh z n k w ps .answer, wordsOf (fresh z n k w ps .rec), fresh z n k w ps .words, fresh z n k w ps .ports)) i

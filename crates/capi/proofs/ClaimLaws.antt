@@ -1,13 +1,13 @@
 -- 0 is accepted, and what a refused call leaves.
-use mathlib.Core.Path.{_≡_, refl, ap, _∙_}
-use mathlib.Core.Bool.{false}
+use mathlib.Core.Path.{_≡_, refl, sym, ap, _∙_}
+use mathlib.Core.Bool.{false, true≢false}
 use mathlib.Core.List.{List, [], _∷_}
 use native.Mathlib.Omega.{arith}
 use Prim.Native.Nat.{ℕ, zero, suc}
 use lib.ListN.{length}
 use Rattle.model.specs.Record as model
 use Rattle.model.specs.Step.{State, Call, Answer, refused, done, isRefused, step, freshRows, freshRecord, freshUnless, fresh}
-use Rattle.model.specs.Frames.{clears, wordsAfter, RefusalLeaves, RefusalNumber}
+use Rattle.model.specs.Frames.{clears, wordsAfter, numbers, RefusalLeaves, RefusalNumber}
 use Rattle.model.proofs.FrameLaws.{refusal-leaves, refusal-number}
 use Rattle.capi.specs.Words.{recordIn, wordsOf, stateIn}
 use Rattle.capi.specs.Contract.{numberOf, left, leftBy, called, freshBy, freshed}
@@ -26,34 +26,34 @@ words-back (x0 ∷ x1 ∷ x2 ∷ x3 ∷ x4 ∷ x5 ∷ x6 ∷ l) p = absurd (omeg
 
 zero-goes : (c : Call) (s : State) (x : Answer) → step c s .answer ≡ x → numberOf x ≡ 0 → isRefused x ≡ false
 unfolding RefusalNumber
-zero-goes c s (refused k) p q = absurd (omega (arith, q, refusal-number c s k p .0))
+zero-goes c s (refused k) p q = absurd (true≢false (sym (refusal-number c s k p) ∙ ap numbers q))
 zero-goes c s (done g) p q = refl
 
 pub zero-accepts : ZeroAccepts
 unfolding ZeroAccepts called
-zero-accepts c r w l a v e = zero-goes c (stateIn r w l) (step c (stateIn r w l) .answer) refl e
+zero-accepts c r w l ps a v e = zero-goes c (stateIn r w l ps) (step c (stateIn r w l ps) .answer) refl e
 
 -- an answer whose number is a row's is refused by it
 numbered-refused : (x : Answer) (k : ℕ) → numberOf x ≡ suc k → x ≡ refused (suc k)
 numbered-refused (refused j) k q = ap refused q
 numbered-refused (done g) k q = absurd (omega (arith, q))
 
-refused-as : (c : Call) (r w l a : List ℕ) (v k : ℕ) → length r ≡ 6 → step c (stateIn r w l) .answer ≡ refused (suc k)
-    → leftBy (step c (stateIn r w l)) a v ≡ left (suc k) r (wordsAfter (clears c (suc k)) (stateIn r w l)) l a v
+refused-as : (c : Call) (r w l ps a : List ℕ) (v k : ℕ) → length r ≡ 6 → step c (stateIn r w l ps) .answer ≡ refused (suc k)
+    → leftBy (step c (stateIn r w l ps)) a v ≡ left (suc k) r (wordsAfter (clears c (suc k)) (stateIn r w l ps)) l ps a v
 unfolding RefusalLeaves
-refused-as c r w l a v k six e =
-    ap (λ (z : Answer). leftBy (record { answer = z; after = step c (stateIn r w l) .after }) a v) e
-    ∙ ap (λ (z : State). leftBy (record { answer = refused (suc k); after = z }) a v) (refusal-leaves c (stateIn r w l) (suc k) e)
-    ∙ ap (λ (z : List ℕ). left (suc k) z (wordsAfter (clears c (suc k)) (stateIn r w l)) l a v) (words-back r six)
+refused-as c r w l ps a v k six e =
+    ap (λ (z : Answer). leftBy (record { answer = z; after = step c (stateIn r w l ps) .after }) a v) e
+    ∙ ap (λ (z : State). leftBy (record { answer = refused (suc k); after = z }) a v) (refusal-leaves c (stateIn r w l ps) (suc k) e)
+    ∙ ap (λ (z : List ℕ). left (suc k) z (wordsAfter (clears c (suc k)) (stateIn r w l ps)) l ps a v) (words-back r six)
 
 pub refused-leaves : RefusedLeaves
 unfolding RefusedLeaves called
-refused-leaves c r w l a v k six e = refused-as c r w l a v k six (numbered-refused (step c (stateIn r w l) .answer) k e)
+refused-leaves c r w l ps a v k six e = refused-as c r w l ps a v k six (numbered-refused (step c (stateIn r w l ps) .answer) k e)
 
-fresh-unless : (j : ℕ) (g : model.Record) (r ws : List ℕ) (k : ℕ) → length r ≡ 6 → freshBy (freshUnless j (recordIn r) g ws) .0 ≡ suc k → freshBy (freshUnless j (recordIn r) g ws) ≡ (suc k, r, ws)
-fresh-unless zero g r ws k six e = absurd (omega (arith, e))
-fresh-unless (suc j) g r ws k six e = ap (λ (z : ℕ). (z, wordsOf (recordIn r), ws)) e ∙ ap (λ (z : List ℕ). (suc k, z, ws)) (words-back r six)
+fresh-unless : (j : ℕ) (g : model.Record) (r ws ps : List ℕ) (k : ℕ) → length r ≡ 6 → freshBy (freshUnless j (recordIn r) g ws ps) .0 ≡ suc k → freshBy (freshUnless j (recordIn r) g ws ps) ≡ (suc k, r, ws, ps)
+fresh-unless zero g r ws ps k six e = absurd (omega (arith, e))
+fresh-unless (suc j) g r ws ps k six e = ap (λ (z : ℕ). (z, wordsOf (recordIn r), ws, ps)) e ∙ ap (λ (z : List ℕ). (suc k, z, ws, ps)) (words-back r six)
 
 pub fresh-refused : FreshRefused
 unfolding FreshRefused freshed fresh
-fresh-refused n w r ws k six e = fresh-unless (freshRows n w ws) (freshRecord n w) r ws k six e
+fresh-refused n w r ws ps k six e = fresh-unless (freshRows n w ws) (freshRecord n w) r ws ps k six e

@@ -11,11 +11,11 @@ use Rattle.capi.specs.Contract.{left, called, freshed}
 
 -- "0 for accepted"
 unfoldable pub ZeroAccepts : Type 0
-ZeroAccepts = (c : Call) (r w l a : List ℕ) (v : ℕ) → called c r w l a v .number ≡ 0 → isRefused (step c (stateIn r w l) .answer) ≡ false
+ZeroAccepts = (c : Call) (r w l ps a : List ℕ) (v : ℕ) → called c r w l ps a v .number ≡ 0 → isRefused (step c (stateIn r w l ps) .answer) ≡ false
 
--- refused: record, list, answer words and out-word "are untouched", and node words too, but for those that 9, or 8 in an assert, clears
+-- refused: record, list, ports, answer words and out-word "are untouched", and node words too, but for those that 9, or 8 in an assert, clears
 unfoldable pub RefusedLeaves : Type 0
-RefusedLeaves = (c : Call) (r w l a : List ℕ) (v k : ℕ) → length r ≡ 6 → called c r w l a v .number ≡ suc k → called c r w l a v ≡ left (suc k) r (wordsAfter (clears c (suc k)) (stateIn r w l)) l a v
+RefusedLeaves = (c : Call) (r w l ps a : List ℕ) (v k : ℕ) → length r ≡ 6 → called c r w l ps a v .number ≡ suc k → called c r w l ps a v ≡ left (suc k) r (wordsAfter (clears c (suc k)) (stateIn r w l ps)) l ps a v
 
 unfoldable pub FreshRefused : Type 0
-FreshRefused = (n w : ℕ) (r ws : List ℕ) (k : ℕ) → length r ≡ 6 → freshed n w r ws .0 ≡ suc k → freshed n w r ws ≡ (suc k, r, ws)
+FreshRefused = (n w : ℕ) (r ws ps : List ℕ) (k : ℕ) → length r ≡ 6 → freshed n w r ws ps .0 ≡ suc k → freshed n w r ws ps ≡ (suc k, r, ws, ps)

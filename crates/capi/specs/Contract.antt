@@ -26,38 +26,39 @@ abbrev pub outOf : Answer → ℕ → ℕ
 outOf (refused k) v = v
 outOf (done g) v = givenOut g v
 
--- what a function returns, and what it leaves in the record's words, node words, list, answer words and out-word; [] or 0 where it is lent none
+-- what a function returns, and what it leaves in the record's words, node words, list, ports, answer words and out-word; [] or 0 where it is lent none
 pub record Left : Type 0 where
   pub number : ℕ
   pub rec : List ℕ
   pub nodes : List ℕ
   pub list : List ℕ
+  pub ports : List ℕ
   pub answer : List ℕ
   pub out : ℕ
 
-abbrev pub left : ℕ → List ℕ → List ℕ → List ℕ → List ℕ → ℕ → Left
-left k r w l a v = record { number = k; rec = r; nodes = w; list = l; answer = a; out = v }
+abbrev pub left : ℕ → List ℕ → List ℕ → List ℕ → List ℕ → List ℕ → ℕ → Left
+left k r w l ps a v = record { number = k; rec = r; nodes = w; list = l; ports = ps; answer = a; out = v }
 
 -- by a call's result, from answer words a and an out-word v
 abbrev pub leftBy : Result → List ℕ → ℕ → Left
-leftBy x a v = left (numberOf (x .answer)) (wordsOf (x .after .rec)) (x .after .words) (x .after .list) (answerWords (x .answer) a) (outOf (x .answer) v)
+leftBy x a v = left (numberOf (x .answer)) (wordsOf (x .after .rec)) (x .after .words) (x .after .list) (x .after .ports) (answerWords (x .answer) a) (outOf (x .answer) v)
 
-unfoldable pub called : Call → List ℕ → List ℕ → List ℕ → List ℕ → ℕ → Left
-called c r w l a v = leftBy (step c (stateIn r w l)) a v
+unfoldable pub called : Call → List ℕ → List ℕ → List ℕ → List ℕ → List ℕ → ℕ → Left
+called c r w l ps a v = leftBy (step c (stateIn r w l ps)) a v
 
 -- evaluate: the number and the value
 abbrev pub evaluatedBy : Left → ℕ × ℕ
 evaluatedBy x = (x .number, x .out)
 
 unfoldable pub evaluated : ℕ → ℕ → List ℕ → List ℕ → ℕ → ℕ × ℕ
-evaluated f φ r w v = evaluatedBy (called (nodeCall (evaluate f φ)) r w [] [] v)
+evaluated f φ r w v = evaluatedBy (called (nodeCall (evaluate f φ)) r w [] [] [] v)
 
--- Fresh: the number, the record's words and the node words
-abbrev pub freshBy : Fresh → ℕ × List ℕ × List ℕ
-freshBy x = (x .answer, wordsOf (x .rec), x .words)
+-- Fresh: the number, the record's words, the node words and the ports
+abbrev pub freshBy : Fresh → ℕ × List ℕ × List ℕ × List ℕ
+freshBy x = (x .answer, wordsOf (x .rec), x .words, x .ports)
 
-unfoldable pub freshed : ℕ → ℕ → List ℕ → List ℕ → ℕ × List ℕ × List ℕ
-freshed n w r ws = freshBy (fresh (recordIn r) n w ws)
+unfoldable pub freshed : ℕ → ℕ → List ℕ → List ℕ → List ℕ → ℕ × List ℕ × List ℕ × List ℕ
+freshed n w r ws ps = freshBy (fresh (recordIn r) n w ws ps)
 
 -- a case: "`count` is the text length, or K where the case is refused", and then the record is untouched
 pub record LeftCase : Type 0 where

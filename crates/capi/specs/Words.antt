@@ -12,6 +12,6 @@ recordIn r = record { n = getD r 0 0; w = getD r 1 0; count = getD r 2 0; entrie
 abbrev pub wordsOf : Record → List ℕ
 wordsOf r = r .n ∷ r .w ∷ r .count ∷ r .entries ∷ r .asserted ∷ r .checked ∷ []
 
--- record, node words and list of a call
-abbrev pub stateIn : List ℕ → List ℕ → List ℕ → State
-stateIn r w l = record { rec = recordIn r; words = w; list = l }
+-- record, node words, list and ports of a call
+abbrev pub stateIn : List ℕ → List ℕ → List ℕ → List ℕ → State
+stateIn r w l ps = record { rec = recordIn r; words = w; list = l; ports = ps }

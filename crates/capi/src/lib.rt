@@ -40,10 +40,16 @@ fn put_record(words: &mut [u32; 6], r: Record)
 
 // Fresh.
 #[no_mangle]
-pub extern "C" fn md_fresh(record: &mut [u32; 6], n: u32, w: u32, nodes: &mut [u32]) -> u32
-    ensures { λ r. ⌜ (r, now («record» .exit), now (nodes .exit)) ≡ freshed n w (now («record» .entry)) (now (nodes .entry)) ⌝ }
+pub extern "C" fn md_fresh(
+    record: &mut [u32; 6],
+    n: u32,
+    w: u32,
+    nodes: &mut [u32],
+    ports: &mut [u32; 128],
+) -> u32
+    ensures { λ r. ⌜ (r, now («record» .exit), now (nodes .exit), now (ports .exit)) ≡ freshed n w (now («record» .entry)) (now (nodes .entry)) (now (ports .entry)) ⌝ }
 {
-    let x = record_of(record).fresh(nodes, n, w);
+    let x = record_of(record).fresh(nodes, ports, n, w);
     put_record(record, x.after);
     let answer = x.answer;
     match answer {
@@ -60,7 +66,7 @@ pub extern "C" fn md_variable(
     variable: u32,
     node: &mut u32,
 ) -> u32
-    ensures { λ r. ⌜ left r (now («record» .exit)) (now (nodes .exit)) [] [] (now (node .exit)) ≡ called (nodeCall (step.variable variable)) (now («record» .entry)) (now (nodes .entry)) [] [] (now (node .entry)) ⌝ }
+    ensures { λ r. ⌜ left r (now («record» .exit)) (now (nodes .exit)) [] [] [] (now (node .exit)) ≡ called (nodeCall (step.variable variable)) (now («record» .entry)) (now (nodes .entry)) [] [] [] (now (node .entry)) ⌝ }
 {
     let x = record_of(record).variable(nodes, variable);
     put_record(record, x.after);
@@ -84,7 +90,7 @@ pub extern "C" fn md_ite(
     h: u32,
     node: &mut u32,
 ) -> u32
-    ensures { λ r. ⌜ left r (now («record» .exit)) (now (nodes .exit)) [] [] (now (node .exit)) ≡ called (nodeCall (ite f g h)) (now («record» .entry)) (now (nodes .entry)) [] [] (now (node .entry)) ⌝ }
+    ensures { λ r. ⌜ left r (now («record» .exit)) (now (nodes .exit)) [] [] [] (now (node .exit)) ≡ called (nodeCall (ite f g h)) (now («record» .entry)) (now (nodes .entry)) [] [] [] (now (node .entry)) ⌝ }
 {
     let x = record_of(record).ite(nodes, f, g, h);
     put_record(record, x.after);
@@ -131,7 +137,7 @@ pub extern "C" fn md_write(
     data: &[u32],
     place: &mut u32,
 ) -> u32
-    ensures { λ r. ⌜ left r (now («record» .exit)) (now (nodes .exit)) (now (list .exit)) [] (now (place .exit)) ≡ called (access (write (now (enable .entry)) (now (address .entry)) (now («data» .entry)))) (now («record» .entry)) (now (nodes .entry)) (now (list .entry)) [] (now (place .entry)) ⌝ }
+    ensures { λ r. ⌜ left r (now («record» .exit)) (now (nodes .exit)) (now (list .exit)) [] [] (now (place .exit)) ≡ called (access (write (now (enable .entry)) (now (address .entry)) (now («data» .entry)))) (now («record» .entry)) (now (nodes .entry)) (now (list .entry)) [] [] (now (place .entry)) ⌝ }
 {
     let x = record_of(record).write(nodes, list, enable, address, data);
     put_record(record, x.after);
@@ -155,7 +161,7 @@ pub extern "C" fn md_check(
     address: &[u32],
     data: &[u32],
 ) -> u32
-    ensures { λ r. ⌜ left r (now («record» .exit)) (now (nodes .exit)) (now (list .entry)) [] 0 ≡ called (access (check b (now (address .entry)) (now («data» .entry)))) (now («record» .entry)) (now (nodes .entry)) (now (list .entry)) [] 0 ⌝ }
+    ensures { λ r. ⌜ left r (now («record» .exit)) (now (nodes .exit)) (now (list .entry)) [] [] 0 ≡ called (access (check b (now (address .entry)) (now («data» .entry)))) (now («record» .entry)) (now (nodes .entry)) (now (list .entry)) [] [] 0 ⌝ }
 {
     let x = record_of(record).check(nodes, list, ControlNode(b), address, data);
     put_record(record, x.after);
@@ -177,7 +183,7 @@ pub extern "C" fn md_assert(
     data: &[u32],
     entered: &mut u32,
 ) -> u32
-    ensures { λ r. ⌜ left r (now («record» .exit)) (now (nodes .exit)) (now (list .exit)) [] (now (entered .exit)) ≡ called (access (assert b (now (address .entry)) (now («data» .entry)))) (now («record» .entry)) (now (nodes .entry)) (now (list .entry)) [] (now (entered .entry)) ⌝ }
+    ensures { λ r. ⌜ left r (now («record» .exit)) (now (nodes .exit)) (now (list .exit)) [] [] (now (entered .exit)) ≡ called (access (assert b (now (address .entry)) (now («data» .entry)))) (now («record» .entry)) (now (nodes .entry)) (now (list .entry)) [] [] (now (entered .entry)) ⌝ }
 {
     let x = record_of(record).assert(nodes, list, ControlNode(b), address, data);
     put_record(record, x.after);
@@ -195,19 +201,21 @@ pub extern "C" fn md_assert(
     }
 }
 
-// Read.
+// Read, at a port.
 #[no_mangle]
 pub extern "C" fn md_read(
     record: &mut [u32; 6],
     nodes: &mut [u32],
     list: &[u32],
+    ports: &mut [u32; 128],
+    port: u32,
     enable: &[u32],
     address: &[u32],
     answer: &mut [u32],
 ) -> u32
-    ensures { λ r. ⌜ left r (now («record» .exit)) (now (nodes .exit)) (now (list .entry)) (now (answer .exit)) 0 ≡ called (access (read (now (enable .entry)) (now (address .entry)) (now (answer .entry)))) (now («record» .entry)) (now (nodes .entry)) (now (list .entry)) (now (answer .entry)) 0 ⌝ }
+    ensures { λ r. ⌜ left r (now («record» .exit)) (now (nodes .exit)) (now (list .entry)) (now (ports .exit)) (now (answer .exit)) 0 ≡ called (access (read port (now (enable .entry)) (now (address .entry)) (now (answer .entry)))) (now («record» .entry)) (now (nodes .entry)) (now (list .entry)) (now (ports .entry)) (now (answer .entry)) 0 ⌝ }
 {
-    let x = record_of(record).read(nodes, list, enable, address, answer);
+    let x = record_of(record).read(nodes, list, ports, port, enable, address, answer);
     put_record(record, x.after);
     let filled = x.answer;
     match filled {

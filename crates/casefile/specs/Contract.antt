@@ -17,10 +17,14 @@ abbrev pub answered : CaseAnswer → Answered
 answered (answer.Done length m) = accepts length (recordOf m)
 answered (answer.Refused number after) = refuses number after
 
--- the end of a case, with node words, list and text bytes; the text is not full
-abbrev pub endedOf : CaseAnswer → List ℕ → List ℕ → List ℕ → Ended
-endedOf (answer.Done length m) w l b = ended (stateOf m w l) (out b (record { at = length; full = false }))
-endedOf (answer.Refused number after) w l b = stopped number after
+-- the end of a case, with node words, list, text bytes and ports; the text is not full
+abbrev pub endedOf : CaseAnswer → List ℕ → List ℕ → List ℕ → List ℕ → Ended
+endedOf (answer.Done length m) w l b ps = ended (stateOf m w l ps) (out b (record { at = length; full = false }))
+endedOf (answer.Refused number after) w l b ps = stopped number after
+
+-- with the ports as it left its own
+abbrev pub EndsAs : CaseAnswer → List ℕ → List ℕ → List ℕ → Ended → Type 0
+EndsAs r w l b x = (ps : List ℕ) × (endedOf r w l b ps ≡ x)
 
 abbrev pub caseAs : CaseAnswer → List ℕ → List ℕ → List ℕ → Case
 caseAs r w l b = record { answer = answered r; words = w; list = l; text = b }
@@ -29,6 +33,6 @@ caseAs r w l b = record { answer = answered r; words = w; list = l; text = b }
 abbrev pub outputAs : Text → List ℕ → List ℕ → List ℕ → Output
 outputAs t w l b = record { text = out b t; words = w; list = l }
 
--- the last line, whatever node words and list are
+-- the last line, whatever node words, list and ports are
 abbrev pub Finishes : CaseAnswer → List ℕ → List ℕ → ℕ → Run → List ℕ → Type 0
-Finishes r b′ file k c b = (w l : List ℕ) → endedOf r w l b′ ≡ last file k (runningOf c w l b)
+Finishes r b′ file k c b = (w l ps : List ℕ) → endedOf r w l b′ ps ≡ last file k (runningOf c w l b ps)

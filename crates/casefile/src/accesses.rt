@@ -1,8 +1,10 @@
 // The sections, the accesses one after the other, and the last line.
 ghost use mathlib.Core.Path.{_≡_};
+ghost use Rattle.model.specs.Frames.{PortsValid};
+ghost use Rattle.memory.specs.Contract.{stateOf};
 ghost use Rattle.cases.specs.Case.{rest, whole};
 ghost use Rattle.entering.specs.Contract.{runningOf, Ready};
-ghost use Rattle.casefile.specs.Contract.{endedOf, Finishes};
+ghost use Rattle.casefile.specs.Contract.{endedOf, EndsAs, Finishes};
 use crate::CaseAnswer;
 use conditions::Table;
 use entering::Run;
@@ -36,17 +38,18 @@ fn do_all(
     words: &mut [u32],
     list: &mut [u32],
     table: &mut Table,
+    ports: &mut [u32; 128],
     buf: &mut [u8],
     c: Run,
     accesses: u32,
 ) -> CaseAnswer
-    requires { ⌜ Ready (c .memory) (now words) (now list) (now table) ⌝ }
-    ensures { λ r. ⌜ endedOf r (now (words .exit)) (now (list .exit)) (now (buf .exit)) ≡ rest (now (file .entry)) accesses 0 (runningOf c (now (words .entry)) (now (list .entry)) (now (buf .entry))) ⌝ }
+    requires { ⌜ Ready (c .memory) (now words) (now list) (now table) × PortsValid (stateOf (c .memory) (now words) (now list) (now ports)) ⌝ }
+    ensures { λ r. ⌜ endedOf r (now (words .exit)) (now (list .exit)) (now (buf .exit)) (now (ports .exit)) ≡ rest (now (file .entry)) accesses 0 (runningOf c (now (words .entry)) (now (list .entry)) (now (buf .entry)) (now (ports .entry))) ⌝ }
 {
     let mut c = c;
     let mut i: u32 = 0;
     while i < accesses {
-        let r = dispatch::do_one(file, words, list, table, buf, c);
+        let r = dispatch::do_one(file, words, list, table, ports, buf, c);
         match r {
             Step::On(next) => {
                 c = next;
@@ -60,9 +63,9 @@ fn do_all(
     finish(file, buf, c, i)
 }
 
-// The sections, and the accesses with one computed table.
+// The sections, and the accesses with one computed table and ports of the case's own.
 pub fn whole(file: &[u8], words: &mut [u32], list: &mut [u32], buf: &mut [u8]) -> CaseAnswer
-    ensures { λ r. ⌜ endedOf r (now (words .exit)) (now (list .exit)) (now (buf .exit)) ≡ whole (now (file .entry)) (now (words .entry)) (now (list .entry)) (now (buf .entry)) ⌝ }
+    ensures { λ r. ⌜ EndsAs r (now (words .exit)) (now (list .exit)) (now (buf .exit)) (whole (now (file .entry)) (now (words .entry)) (now (list .entry)) (now (buf .entry))) ⌝ }
 {
     let loaded = reading::load_sections(file, words);
     match loaded {
@@ -86,7 +89,8 @@ pub fn whole(file: &[u8], words: &mut [u32], list: &mut [u32], buf: &mut [u8]) -
                 at,
             };
             let mut table: Table = [0; 32768];
-            do_all(file, words, list, &mut table, buf, c, accesses)
+            let mut ports: [u32; 128] = [1; 128];
+            do_all(file, words, list, &mut table, &mut ports, buf, c, accesses)
         }
         Loaded::Refused(number) => CaseAnswer::Refused { number, after: 0 },
     }

@@ -13,7 +13,7 @@ use Rattle.text.proofs.TextLaws.{appended-append, appended-fits, appended-is-fu
 use Rattle.lines.specs.Lines.{endLine}
 use Rattle.conditions.specs.Value.{value}
 use Rattle.conditions.specs.Assignment.{bitAt}
-use Rattle.model.specs.Record.{Record}
+use Rattle.model.specs.Record.{Record, freshPorts}
 use Rattle.model.specs.Step.{State, Call, accepted, isRefused, step, run}
 use Rattle.model.specs.Frames.{SuccessLeaves}
 use Rattle.model.specs.Claims.{Begins, Demand3}
@@ -99,12 +99,12 @@ record Began (file words list text : List ℕ) (s : State) (o : Out) : Type 0 wh
 
 -- sections that are read
 pub begun : (file words list text : List ℕ) {n w count m at : ℕ} → sections file words .1 ≡ ready n w count m at
-    → rest file m 0 (record { state = record { rec = firstRecord n w count; words = sections file words .0; list = list }; at = at; text = growing text 0 }) ≡ rest file (accessesIn file) 0 (start file words list text)
+    → rest file m 0 (record { state = record { rec = firstRecord n w count; words = sections file words .0; list = list; ports = freshPorts }; at = at; text = growing text 0 }) ≡ rest file (accessesIn file) 0 (start file words list text)
 begun file words list text {n} {w} {count} {m} {at} q =
     let ws = sections file words .0 in
     let R = sections-read file words {ws = ws} {n = n} {w = w} {count = count} {accesses = m} {at = at} (ap (λ (y : Sections). (ws, y)) (sym q)) in
-    let start-is : record { state = record { rec = firstRecord n w count; words = ws; list = list }; at = at; text = growing text 0 } ≡ start file words list text =
-    λ i. record { state = record { rec = record { n = R .n-is i; w = R .w-is i; count = R .count-is i; entries = 0; asserted = 1; checked = 1 }; words = R .words-are i; list = list }; at = R .at-is i; text = growing text 0 } in
+    let start-is : record { state = record { rec = firstRecord n w count; words = ws; list = list; ports = freshPorts }; at = at; text = growing text 0 } ≡ start file words list text =
+    λ i. record { state = record { rec = record { n = R .n-is i; w = R .w-is i; count = R .count-is i; entries = 0; asserted = 1; checked = 1 }; words = R .words-are i; list = list; ports = freshPorts }; at = R .at-is i; text = growing text 0 } in
     ap (λ (y : Running). rest file m 0 y) start-is ∙ ap (λ (i : ℕ). rest file i 0 (start file words list text)) (R .accesses-is)
 
 whole-began : (file words list text : List ℕ) (s : State) (o : Out) → whole file words list text ≡ ended s o → Began file words list text s o
@@ -115,8 +115,8 @@ whole-began file words list text s o e = go (sections file words .1) refl e
     go (ready n w count m at) q e =
         let ws = sections file words .0 in
         let R = sections-read file words {ws = ws} {n = n} {w = w} {count = count} {accesses = m} {at = at} (ap (λ (y : Sections). (ws, y)) (sym q)) in
-        let state-is : record { rec = firstRecord n w count; words = ws; list = list } ≡ stateIn file words list =
-        λ i. record { rec = record { n = R .n-is i; w = R .w-is i; count = R .count-is i; entries = 0; asserted = 1; checked = 1 }; words = R .words-are i; list = list } in
+        let state-is : record { rec = firstRecord n w count; words = ws; list = list; ports = freshPorts } ≡ stateIn file words list =
+        λ i. record { rec = record { n = R .n-is i; w = R .w-is i; count = R .count-is i; entries = 0; asserted = 1; checked = 1 }; words = R .words-are i; list = list; ports = freshPorts } in
         record {
           read = q ∙ (λ i. ready (R .n-is i) (R .w-is i) (R .count-is i) (R .accesses-is i) (R .at-is i));
           begins = subst Begins state-is (sections-begin R list);

@@ -5,27 +5,27 @@ use mathlib.Core.Logic.{_⊎_, inl, inr}
 use mathlib.Core.List.{List, [], _∷_, _++_}
 use Prim.Native.Nat.{ℕ, zero, suc, _+_, _*_, _≤_}
 use native.Mathlib.Omega.{arith}
-use lib.Dec.{eqb}
+use lib.Dec.{eqb, leb}
 use lib.ListN.{length, getD, replicate, length-replicate}
-use borrow.Author.Tests.{eqb-true, eq-eqb}
+use borrow.Author.Tests.{eqb-true, eq-eqb, leb-true}
 use Rattle.nodes.proofs.BoolLaws.{and-both, or-cases, both-and}
-use Rattle.model.specs.Record.{part}
+use Rattle.model.specs.Record.{part, freshPorts}
 use Rattle.model.specs.Rows.{Row, firstRow, writeRows, readRows, assertRows, checkRows, evaluateRows}
 use Rattle.model.specs.Step.{State, Call, refused, refusal, Finish, full, short, gives, finish, step, run}
-use Rattle.model.specs.Frames.{Valid, RefusalNumber, NoRow123, RefusedByRow, lateRow}
+use Rattle.model.specs.Frames.{Valid, RefusalNumber, NoRow123, RefusedByRow, lateRow, PortsValid, numbers}
 use Rattle.model.proofs.FrameLaws.{refusal-number, no-row-123}
 use Rattle.model.proofs.StayLaws.{refused-by-row}
 use Rattle.reading.specs.declared.Kind.{Kind}
 use Rattle.reading.specs.declared.Kind.the-variants as kind
 use Rattle.reading.specs.Bytes.{numbersAt}
 use Rattle.reading.specs.Kinds.{sizeOf}
-use Rattle.reading.specs.Accesses.{Found, found, kindAt, nodesAt, accessRows, foundUnless, accessAt}
+use Rattle.reading.specs.Accesses.{Found, found, kindAt, nodesAt, accessRows, foundUnless, accessAt, portIn}
 use Rattle.reading.specs.Accesses as accesses
 use Rattle.reading.specs.Sections.{Sections, ready, recordIn, nodesIn, earlyRows, lateRows, sectionsUnless, sections, accessesIn, firstAt}
 use Rattle.reading.specs.Sections as sections
 use Rattle.reading.proofs.BytesLaws.{numbers-length}
 use Rattle.reading.proofs.RowLaws.{rows-number}
-use Rattle.reading.proofs.SectionLaws.{sections-read, sections-valid}
+use Rattle.reading.proofs.SectionLaws.{sections-read, sections-valid, sections-ports-valid}
 use Rattle.cases.specs.Case.{callOf}
 use Rattle.cases.specs.Claims.{stateIn, AllAccepted, SectionsReady, firstCalls, byteAfter, answerAfter, RefusedAt, missing, refusedCall, lineOver, bytesLeft, endOver, CaseRefused, CaseNumber, RefusedNumbers}
 use Rattle.cases.proofs.CallLaws.{part-size}
@@ -58,7 +58,7 @@ access-number : (file : List ℕ) (at n w number : ℕ) → accessAt file at n w
 unfolding accessAt
 access-number file at n w number e = go (firstRow (accessRows file at n w)) refl e
   where
-    go : (r : ℕ) → firstRow (accessRows file at n w) ≡ r → foundUnless r (found (kindAt file at) (nodesAt file at)) ≡ accesses.refused number → CaseNumber number
+    go : (r : ℕ) → firstRow (accessRows file at n w) ≡ r → foundUnless r (found (kindAt file at) (portIn file at) (nodesAt file at)) ≡ accesses.refused number → CaseNumber number
     go zero q e = let z : _≡_ {A = ℕ} 0 1 = cc in absurd (omega arith)
     go (suc k) q e = let z : number ≡ suc k = cc in subst CaseNumber (sym z) (rows-number CaseNumber (accessRows file at n w) (ten, (from-five 11 (omega arith) (omega arith), (ten, tt))) q)
 
@@ -76,7 +76,7 @@ passes-not k (t ∷ ts) P e = go (passes-not k ts (P .1)) (t .1) refl e
     go again false q e = false≢true (sym q ∙ P .0 e)
 
 -- an access of a file has control, address and data of the right lengths
-module _ (n w : ℕ) (ops : List ℕ) (s : State) (en : s .rec .n ≡ n) (ew : s .rec .w ≡ w) where
+module _ (p n w : ℕ) (ops : List ℕ) (s : State) (en : s .rec .n ≡ n) (ew : s .rec .w ≡ w) where
   lengths : {a b c x y z : ℕ} → a ≡ x → b ≡ y → c ≡ z → (eqb a x && eqb b y && eqb c z) ≡ true
   lengths {a} {b} {c} {x} {y} {z} p q r = both-and (both-and (eq-eqb a x p) (eq-eqb b y q)) (eq-eqb c z r)
 
@@ -90,26 +90,26 @@ module _ (n w : ℕ) (ops : List ℕ) (s : State) (en : s .rec .n ≡ n) (ew : s
   no : {k : ℕ} {b : Bool} → k ≡ 4 → eqb k 4 ≡ false → b ≡ true
   no e f = absurd (false≢true (sym f ∙ eq-eqb _ 4 e))
 
-  row-four : (k : Kind) → length ops ≡ sizeOf k n w → refusal (callOf k n w ops) s ≡ 4 → ⊥
+  row-four : (k : Kind) → length ops ≡ sizeOf k n w → refusal (callOf k p n w ops) s ≡ 4 → ⊥
   unfolding callOf sizeOf
   row-four kind.Write z = passes-not 3 (writeRows (s .rec) (s .words) (s .list) (part ops 0 2) (part ops 2 (2 + 2 * n)) (part ops (2 + 2 * n) (2 + 2 * n + 2 * w))) (λ e. no e refl, (λ e. no e refl, (λ e. no e refl, (λ _. lengths (part-size ops 0 2 (omega arith)) (address 2 (omega arith)) (word (2 + 2 * n) (omega arith)), (λ e. no e refl, (λ e. no e refl, (λ e. no e refl, tt)))))))
-  row-four kind.Read z = passes-not 3 (readRows (s .rec) (s .words) (s .list) (part ops 0 2) (part ops 2 (2 + 2 * n)) (replicate (2 * w) 0)) (λ e. no e refl, (λ e. no e refl, (λ e. no e refl, (λ _. lengths (part-size ops 0 2 (omega arith)) (address 2 (omega arith)) (length-replicate {A = ℕ} (2 * w) 0 ∙ ap (λ (x : ℕ). 2 * x) (sym ew)), (λ e. no e refl, (λ e. no e refl, tt))))))
+  row-four kind.Read z = passes-not 3 (readRows (s .rec) (s .words) (s .list) (s .ports) p (part ops 0 2) (part ops 2 (2 + 2 * n)) (replicate (2 * w) 0)) (λ e. no e refl, (λ e. no e refl, (λ e. no e refl, (λ _. lengths (part-size ops 0 2 (omega arith)) (address 2 (omega arith)) (length-replicate {A = ℕ} (2 * w) 0 ∙ ap (λ (x : ℕ). 2 * x) (sym ew)), (λ e. no e refl, (λ e. no e refl, (λ e. no e refl, tt)))))))
   row-four kind.Assert z = passes-not 3 (assertRows (s .rec) (s .words) (s .list) (getD ops 0 0) (part ops 1 (1 + 2 * n)) (part ops (1 + 2 * n) (1 + 2 * n + 2 * w))) (λ e. no e refl, (λ e. no e refl, (λ e. no e refl, (λ _. both-and (eq-eqb _ _ (address 1 (omega arith))) (eq-eqb _ _ (word (1 + 2 * n) (omega arith))), (λ e. no e refl, (λ e. no e refl, (λ e. no e refl, tt)))))))
   row-four kind.Check z = passes-not 3 (checkRows (s .rec) (s .words) (s .list) (getD ops 0 0) (part ops 1 (1 + 2 * n)) (part ops (1 + 2 * n) (1 + 2 * n + 2 * w))) (λ e. no e refl, (λ e. no e refl, (λ e. no e refl, (λ _. both-and (eq-eqb _ _ (address 1 (omega arith))) (eq-eqb _ _ (word (1 + 2 * n) (omega arith))), (λ e. no e refl, (λ e. no e refl, tt))))))
   row-four kind.Unknown z = passes-not 3 (evaluateRows (s .rec) (s .words) 0) (λ e. no e refl, (λ e. no e refl, (λ e. no e refl, tt)))
 
-  not-four : (k : Kind) → length ops ≡ sizeOf k n w → step (callOf k n w ops) s .answer ≡ refused 4 → ⊥
+  not-four : (k : Kind) → length ops ≡ sizeOf k n w → step (callOf k p n w ops) s .answer ≡ refused 4 → ⊥
   unfolding RefusedByRow
-  not-four k z e = go (or-cases (eqb (refusal (callOf k n w ops) s) 4) _ (refused-by-row (callOf k n w ops) s 4 e))
+  not-four k z e = go (or-cases (eqb (refusal (callOf k p n w ops) s) 4) _ (refused-by-row (callOf k p n w ops) s 4 e))
     where
       none : (x : Finish) → eqb (lateRow x) 4 ≡ true → ⊥
       none (full t) e = false≢true e
       none short e = false≢true e
       none (gives g t) e = false≢true e
 
-      go : (eqb (refusal (callOf k n w ops) s) 4 ≡ true) ⊎ ((eqb (refusal (callOf k n w ops) s) 0 && eqb (lateRow (finish (callOf k n w ops) s)) 4) ≡ true) → ⊥
+      go : (eqb (refusal (callOf k p n w ops) s) 4 ≡ true) ⊎ ((eqb (refusal (callOf k p n w ops) s) 0 && eqb (lateRow (finish (callOf k p n w ops) s)) 4) ≡ true) → ⊥
       go (inl q) = row-four k z (eqb-true _ 4 q)
-      go (inr q) = none (finish (callOf k n w ops) s) (and-both (eqb (refusal (callOf k n w ops) s) 0) _ q .1)
+      go (inr q) = none (finish (callOf k p n w ops) s) (and-both (eqb (refusal (callOf k p n w ops) s) 0) _ q .1)
 
 -- n and w stay
 run-sizes : (cs : List Call) (s : State) → AllAccepted cs s → (run cs s .rec .n ≡ s .rec .n) × (run cs s .rec .w ≡ s .rec .w)
@@ -121,11 +121,20 @@ run-sizes (c ∷ cs) s A =
     (R .0 ∙ Z .0, R .1 ∙ Z .1)
 
 -- the state with which the accesses begin
-first-valid : (file words list : List ℕ) → SectionsReady file words → Valid (stateIn file words list)
+first-valid : (file words list : List ℕ) → SectionsReady file words → Valid (stateIn file words list) × PortsValid (stateIn file words list)
 first-valid file words list q =
     let ws = sections file words .0 in
     let R = sections-read file words {ws = ws} (ap (λ (y : Sections). (ws, y)) (sym q)) in
-    subst (λ (x : List ℕ). Valid (record { rec = recordIn file; words = x; list = list })) (R .words-are) (sections-valid R list)
+    let at : List ℕ → State = λ x. record { rec = recordIn file; words = x; list = list; ports = freshPorts } in
+    subst (λ (x : List ℕ). Valid (at x) × PortsValid (at x)) (R .words-are) (sections-valid R list, sections-ports-valid R list)
+
+-- the numbers of calls are 14 at most
+number-most : (k : ℕ) → numbers k ≡ true → k ≤ 14
+number-most k e = go (or-cases (leb 1 k && leb k 9) (eqb k 14) e)
+  where
+    go : ((leb 1 k && leb k 9) ≡ true) ⊎ (eqb k 14 ≡ true) → k ≤ 14
+    go (inl q) = omega (arith, leb-true k 9 (and-both (leb 1 k) (leb k 9) q .1))
+    go (inr q) = omega (arith, eqb-true k 14 q)
 
 -- of a call
 call-number : (file words list : List ℕ) (k number : ℕ) → SectionsReady file words → AllAccepted (firstCalls file k) (stateIn file words list) → answerAfter file words list k ≡ refused number → CaseNumber number
@@ -136,10 +145,12 @@ call-number file words list k number q A e =
     let n = getD file 0 0 in
     let w = getD file 1 0 in
     let ops = numbersAt file (nodesAt file at) (sizeOf (kindAt file at) n w) in
+    let c = callOf (kindAt file at) (portIn file at) n w ops in
+    let S = first-valid file words list q in
     let Z = run-sizes (firstCalls file k) (stateIn file words list) A in
-    let four : 4 ≤ number = no-row-123 (firstCalls file k) (callOf (kindAt file at) n w ops) (stateIn file words list) number (first-valid file words list q) e in
-    let nine : number ≤ 9 = refusal-number (callOf (kindAt file at) n w ops) s number e .1 in
-    let no : number ≡ 4 → ⊥ = λ z. not-four n w ops s (Z .0) (Z .1) (kindAt file at) (numbers-length file (nodesAt file at) (sizeOf (kindAt file at) n w)) (e ∙ ap refused z) in
+    let four : 4 ≤ number = no-row-123 (firstCalls file k) c (stateIn file words list) number (S .0) (S .1) e in
+    let most : number ≤ 14 = number-most number (refusal-number c s number e) in
+    let no : number ≡ 4 → ⊥ = λ z. not-four (portIn file at) n w ops s (Z .0) (Z .1) (kindAt file at) (numbers-length file (nodesAt file at) (sizeOf (kindAt file at) n w)) (e ∙ ap refused z) in
     (omega arith, omega arith, λ z. omega arith, no)
 
 at-number : (file words list text : List ℕ) {number k : ℕ} → SectionsReady file words → AllAccepted (firstCalls file k) (stateIn file words list) → RefusedAt file words list text number k → CaseNumber number

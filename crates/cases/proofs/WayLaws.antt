@@ -53,8 +53,8 @@ numbered (model.refused k) e = record { number = k; is = refl }
 numbered (model.done g) e = absurd (false≢true e)
 
 -- an access that is found stands there
-found-stands : (file : List ℕ) (at n w : ℕ) {k : Kind} {from : ℕ} → accessAt file at n w ≡ found k from → StandsAt file n w at
-found-stands file at n w q = let L = access-lies file at n w (sym q) in q ∙ (λ i. found (L .kind-is i) (L .from-is i))
+found-stands : (file : List ℕ) (at n w : ℕ) {k : Kind} {port from : ℕ} → accessAt file at n w ≡ found k port from → StandsAt file n w at
+found-stands file at n w q = let L = access-lies file at n w (sym q) in q ∙ (λ i. found (L .kind-is i) (L .port-is i) (L .from-is i))
 
 module _ (file : List ℕ) (c : Running) where
   one-said : StandsHere file c → one file c ≡ said (answerHere file c) (afterOne file c .state) (afterOne file c .at) (c .text)
@@ -85,5 +85,5 @@ module _ (file : List ℕ) (c : Running) where
       called false q S = line (afterOne file c .text .text .full) refl S q
 
       there : (f : Found) → accessAt file (c .at) (c .state .rec .n) (c .state .rec .w) ≡ f → Way file c
-      there (found k from) q = called (isRefused (answerHere file c)) refl (found-stands file (c .at) (c .state .rec .n) (c .state .rec .w) q)
+      there (found k port from) q = called (isRefused (answerHere file c)) refl (found-stands file (c .at) (c .state .rec .n) (c .state .rec .w) q)
       there (accesses.refused k) q = isMissing k (one-none q) q

@@ -6,7 +6,7 @@ use lib.Dec.{ltb}
 use lib.ListN.{length, getD, take, replicate}
 use Rattle.text.specs.Text.{Out, growing, appended}
 use Rattle.lines.specs.Lines.{writeLine, readLine, assertLine, checkLine, endLine, refusedLine}
-use Rattle.model.specs.Record.{Record, part}
+use Rattle.model.specs.Record.{Record, part, freshPorts}
 use Rattle.model.specs.Step.{State, write, read, assert, check, evaluate, Call, access, nodeCall, Given, place, filled, entered, kept, accepted, valued, node, Answer, step}
 use Rattle.model.specs.Step as step
 use Rattle.reading.specs.declared.Kind.{Kind}
@@ -18,13 +18,13 @@ use Rattle.reading.specs.Accesses as accesses
 use Rattle.reading.specs.Sections.{Sections, ready, firstRecord, sections}
 use Rattle.reading.specs.Sections as sections
 
--- "Then the control pair (b alone for 3 and 4), address, data (none for a read)": the call with these nodes. A read is lent words of its own. No access of an unknown kind is found
-unfoldable pub callOf : Kind → ℕ → ℕ → List ℕ → Call
-callOf kind.Write n w ops = access (write (part ops 0 2) (part ops 2 (2 + 2 * n)) (part ops (2 + 2 * n) (2 + 2 * n + 2 * w)))
-callOf kind.Read n w ops = access (read (part ops 0 2) (part ops 2 (2 + 2 * n)) (replicate (2 * w) 0))
-callOf kind.Assert n w ops = access (assert (getD ops 0 0) (part ops 1 (1 + 2 * n)) (part ops (1 + 2 * n) (1 + 2 * n + 2 * w)))
-callOf kind.Check n w ops = access (check (getD ops 0 0) (part ops 1 (1 + 2 * n)) (part ops (1 + 2 * n) (1 + 2 * n + 2 * w)))
-callOf kind.Unknown n w ops = nodeCall (evaluate 0 0)
+-- "Then the control pair (b alone for 3 and 4), address, data (none for a read)": the call with these nodes, of a read at its port. A read is lent words of its own. No access of an unknown kind is found
+unfoldable pub callOf : Kind → ℕ → ℕ → ℕ → List ℕ → Call
+callOf kind.Write p n w ops = access (write (part ops 0 2) (part ops 2 (2 + 2 * n)) (part ops (2 + 2 * n) (2 + 2 * n + 2 * w)))
+callOf kind.Read p n w ops = access (read p (part ops 0 2) (part ops 2 (2 + 2 * n)) (replicate (2 * w) 0))
+callOf kind.Assert p n w ops = access (assert (getD ops 0 0) (part ops 1 (1 + 2 * n)) (part ops (1 + 2 * n) (1 + 2 * n + 2 * w)))
+callOf kind.Check p n w ops = access (check (getD ops 0 0) (part ops 1 (1 + 2 * n)) (part ops (1 + 2 * n) (1 + 2 * n + 2 * w)))
+callOf kind.Unknown p n w ops = nodeCall (evaluate 0 0)
 
 -- "Lines: a write's entry place; a read's h:l for each bit ..; the check condition". "An assert prints `assert entered` or `assert kept`, a space, the assert condition.": the line of an access by its answer and the state after it
 abbrev pub givenLine : Given → State → List ℕ
@@ -66,7 +66,7 @@ done c s at o = said (step c s .answer) (step c s .after) at o
 
 -- an access found, of n and w as in the record, from which the reading goes on to a byte; or not found
 abbrev pub doneAs : List ℕ → Found → ℕ → State → Out → Next
-doneAs file (found k from) next s o = done (callOf k (s .rec .n) (s .rec .w) (numbersAt file from (sizeOf k (s .rec .n) (s .rec .w)))) s next o
+doneAs file (found k port from) next s o = done (callOf k port (s .rec .n) (s .rec .w) (numbersAt file from (sizeOf k (s .rec .n) (s .rec .w)))) s next o
 doneAs file (accesses.refused k) next s o = stops k
 
 unfoldable pub one : List ℕ → Running → Next
@@ -97,9 +97,9 @@ unfoldable pub rest : List ℕ → ℕ → ℕ → Running → Ended
 rest file zero k c = last file k c
 rest file (suc m) k c = after (one file c) k (rest file m (suc k))
 
--- the sections, and the accesses from a fresh record with the file's nodes on, the text being empty
+-- the sections, and the accesses from a fresh record with the file's nodes on, and ports of its own; the text being empty
 abbrev pub afterSections : List ℕ → List ℕ → Sections → List ℕ → List ℕ → Ended
-afterSections file ws (ready n w count m at) list text = rest file m 0 (record { state = record { rec = firstRecord n w count; words = ws; list = list }; at = at; text = growing text 0 })
+afterSections file ws (ready n w count m at) list text = rest file m 0 (record { state = record { rec = firstRecord n w count; words = ws; list = list; ports = freshPorts }; at = at; text = growing text 0 })
 afterSections file ws (sections.refused k) list text = stopped k 0
 
 unfoldable pub whole : List ℕ → List ℕ → List ℕ → List ℕ → Ended

@@ -9,13 +9,13 @@ use lib.ListN.{length, getD, drop}
 use Rattle.conditions.specs.Value.{value}
 use Rattle.conditions.specs.Assignment.{bitAt}
 use Rattle.lines.specs.Lines.{endLine, refusedLine}
-use Rattle.model.specs.Record.{Record}
+use Rattle.model.specs.Record.{Record, freshPorts}
 use Rattle.model.specs.Step.{State, Call, Answer, refused, isRefused, step, run}
 use Rattle.model.specs.Array.{Run, observed, Allowed}
 use Rattle.model.specs.Claims.{events, Exactly}
 use Rattle.reading.specs.Bytes.{numbersAt}
 use Rattle.reading.specs.Kinds.{sizeOf}
-use Rattle.reading.specs.Accesses.{found, kindAt, nodesAt, endOf, accessAt}
+use Rattle.reading.specs.Accesses.{found, kindAt, nodesAt, endOf, accessAt, portIn}
 use Rattle.reading.specs.Accesses as accesses
 use Rattle.reading.specs.Sections.{nodesIn, accessesIn, firstAt, recordIn, stored, ready, sections}
 use Rattle.reading.specs.Sections as sections
@@ -23,7 +23,7 @@ use Rattle.cases.specs.Case.{callOf, lineOf, accepts, refuses, Case, zer
 
 -- the call whose kind byte stands at a place, for n and w
 abbrev pub callAt : List ℕ → ℕ → ℕ → ℕ → Call
-callAt file n w at = callOf (kindAt file at) n w (numbersAt file (nodesAt file at) (sizeOf (kindAt file at) n w))
+callAt file n w at = callOf (kindAt file at) (portIn file at) n w (numbersAt file (nodesAt file at) (sizeOf (kindAt file at) n w))
 
 -- m calls, each from the byte after the one before it
 unfoldable pub callsFrom : List ℕ → ℕ → ℕ → ℕ → ℕ → List Call
@@ -39,9 +39,9 @@ endFrom file n w at (suc m) = endFrom file n w (endOf file at n w) m
 abbrev pub callsIn : List ℕ → List Call
 callsIn file = callsFrom file (getD file 0 0) (getD file 1 0) (firstAt file) (accessesIn file)
 
--- the state that its sections give
+-- the state that its sections give, with ports of its own
 abbrev pub stateIn : List ℕ → List ℕ → List ℕ → State
-stateIn file words list = record { rec = recordIn file; words = stored file words; list = list }
+stateIn file words list = record { rec = recordIn file; words = stored file words; list = list; ports = freshPorts }
 
 -- none of the calls is refused
 abbrev pub AllAccepted : List Call → State → Type 0
@@ -59,7 +59,7 @@ SectionsReady file words = sections file words .1 ≡ ready (getD file 0 0) (get
 
 -- an access stands at this place, for n and w
 abbrev pub StandsAt : List ℕ → ℕ → ℕ → ℕ → Type 0
-StandsAt file n w at = accessAt file at n w ≡ found (kindAt file at) (nodesAt file at)
+StandsAt file n w at = accessAt file at n w ≡ found (kindAt file at) (portIn file at) (nodesAt file at)
 
 -- m accesses stand there, each from the byte after the one before it
 abbrev pub AllStand : List ℕ → ℕ → ℕ → ℕ → ℕ → Type 0
@@ -139,7 +139,7 @@ CaseRefused = (file words list text : List ℕ) (number after : ℕ) → caseOf 
 
 -- the numbers of refused cases: a case makes its own record and takes the words of an access from the file, so that it never meets 3 or 4
 abbrev pub CaseNumber : ℕ → Type 0
-CaseNumber k = (1 ≤ k) × (k ≤ 13) × (k ≡ 3 → ⊥) × (k ≡ 4 → ⊥)
+CaseNumber k = (1 ≤ k) × (k ≤ 14) × (k ≡ 3 → ⊥) × (k ≡ 4 → ⊥)
 
 unfoldable pub RefusedNumbers : Type 0
 RefusedNumbers = (file words list text : List ℕ) (number after : ℕ) → caseOf file words list text .answer ≡ refuses number after → CaseNumber number
@@ -151,8 +151,8 @@ CasePrints = (file words list text : List ℕ)
     × ((number after : ℕ) → caseOf file words list text .answer ≡ refuses number after → length (refusedLine number after) ≤ length text
     → bytesOf (outputOf (caseOf file words list text) .text) ≡ refusedLine number after)
 
--- Demand 3 of such a case under one assignment: its reads, and the check condition of the record r that it answered in the node words that it left, are exactly what
--- the plain runs of its accesses give
+-- Demand 3 of such a case under one assignment: its reads, the words that its ports hold at its end, and the check condition of the record r that it answered in the
+-- node words that it left, are exactly what the plain runs of its accesses give
 pub record CaseExact (file words list : List ℕ) (r : Record) (c : Case) (φ : ℕ → Bool) : Type 0 where
   pub calls : Exactly (stateIn file words list) (callsIn file) φ
   pub checking : T (value (c .words) φ (r .checked))

@@ -1,6 +1,7 @@
 // A case between two accesses, and the accesses that may enter: a write and an assert, each with its line.
 ghost use mathlib.Core.Path.{_≡_};
-ghost use Prim.Native.Nat.{_+_, _*_};
+ghost use mathlib.Core.List.{List};
+ghost use Prim.Native.Nat.{ℕ, _+_, _*_};
 ghost use lib.ListN.{length};
 ghost use Rattle.text.specs.Text.{out};
 ghost use Rattle.reading.specs.declared.Kind.the-variants as kinds;
@@ -48,7 +49,7 @@ pub fn do_write(
     ops: &[u32],
 ) -> Step
     requires { ⌜ Ready (c .memory) (now words) (now list) (now table) × (length (now ops) ≡ 2 + 2 * c .memory .n + 2 * c .memory .w) ⌝ }
-    ensures { λ r. ⌜ StepAs r (now (words .exit)) (now (list .exit)) (now (buf .exit)) (now (table .exit)) (done (callOf kinds.Write (c .memory .n) (c .memory .w) (now (ops .entry))) (stateOf (c .memory) (now (words .entry)) (now (list .entry))) (c .at) (out (now (buf .entry)) (c .text))) ⌝ }
+    ensures { λ r. ⌜ ((ps : List ℕ) → StepAs r (now (words .exit)) (now (list .exit)) (now (buf .exit)) (now (table .exit)) ps (done (callOf kinds.Write 0 (c .memory .n) (c .memory .w) (now (ops .entry))) (stateOf (c .memory) (now (words .entry)) (now (list .entry)) ps) (c .at) (out (now (buf .entry)) (c .text)))) ⌝ }
 {
     let memory = c.memory;
     let a = reading::address_end(2, memory.n);
@@ -75,7 +76,7 @@ pub fn do_assert(
     ops: &[u32],
 ) -> Step
     requires { ⌜ Ready (c .memory) (now words) (now list) (now table) × (length (now ops) ≡ 1 + 2 * c .memory .n + 2 * c .memory .w) ⌝ }
-    ensures { λ r. ⌜ StepAs r (now (words .exit)) (now (list .exit)) (now (buf .exit)) (now (table .exit)) (done (callOf kinds.Assert (c .memory .n) (c .memory .w) (now (ops .entry))) (stateOf (c .memory) (now (words .entry)) (now (list .entry))) (c .at) (out (now (buf .entry)) (c .text))) ⌝ }
+    ensures { λ r. ⌜ ((ps : List ℕ) → StepAs r (now (words .exit)) (now (list .exit)) (now (buf .exit)) (now (table .exit)) ps (done (callOf kinds.Assert 0 (c .memory .n) (c .memory .w) (now (ops .entry))) (stateOf (c .memory) (now (words .entry)) (now (list .entry)) ps) (c .at) (out (now (buf .entry)) (c .text)))) ⌝ }
 {
     let memory = c.memory;
     let a = reading::address_end(1, memory.n);

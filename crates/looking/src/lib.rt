@@ -1,9 +1,11 @@
 // The accesses of a case that enter nothing: a read and a check, each with its line.
-ghost use Prim.Native.Nat.{_+_, _*_};
+ghost use mathlib.Core.List.{List};
+ghost use Prim.Native.Nat.{ℕ, _+_, _*_};
 ghost use mathlib.Core.Path.{_≡_};
 ghost use lib.ListN.{length, replicate};
 ghost use Rattle.text.specs.Text.{out};
 ghost use Rattle.reading.specs.declared.Kind.the-variants as kinds;
+ghost use Rattle.model.specs.Frames.{PortsValid};
 ghost use Rattle.memory.specs.Contract.{stateOf};
 ghost use Rattle.cases.specs.Case.{callOf, done};
 ghost use Rattle.entering.specs.Contract.{Ready, StepAs};
@@ -19,17 +21,28 @@ fn read_into(
     words: &mut [u32],
     list: &[u32],
     table: &mut Table,
+    ports: &mut [u32; 128],
     buf: &mut [u8],
     c: Run,
+    port: u32,
     ops: &[u32],
     word: &mut [u32],
 ) -> Step
-    requires { ⌜ Ready (c .memory) (now words) (now list) (now table) × (length (now ops) ≡ 2 + 2 * c .memory .n) × (now word ≡ replicate (2 * c .memory .w) 0) ⌝ }
-    ensures { λ r. ⌜ StepAs r (now (words .exit)) (now (list .entry)) (now (buf .exit)) (now (table .exit)) (done (callOf kinds.Read (c .memory .n) (c .memory .w) (now (ops .entry))) (stateOf (c .memory) (now (words .entry)) (now (list .entry))) (c .at) (out (now (buf .entry)) (c .text))) ⌝ }
+    requires { ⌜ Ready (c .memory) (now words) (now list) (now table) × PortsValid (stateOf (c .memory) (now words) (now list) (now ports)) × (length (now ops) ≡ 2 + 2 * c .memory .n) × (now word ≡ replicate (2 * c .memory .w) 0) ⌝ }
+    ensures { λ r. ⌜ StepAs r (now (words .exit)) (now (list .entry)) (now (buf .exit)) (now (table .exit)) (now (ports .exit)) (done (callOf kinds.Read port (c .memory .n) (c .memory .w) (now (ops .entry))) (stateOf (c .memory) (now (words .entry)) (now (list .entry)) (now (ports .entry))) (c .at) (out (now (buf .entry)) (c .text))) ⌝ }
 {
     let memory = c.memory;
     let a = reading::address_end(2, memory.n);
-    let r = memory.read_on(words, list, table, &ops[0..2], &ops[2..a], word);
+    let r = memory.read_on(
+        words,
+        list,
+        table,
+        ports,
+        port,
+        &ops[0..2],
+        &ops[2..a],
+        word,
+    );
     let after = r.after;
     let answer = r.answer;
     match answer {
@@ -46,17 +59,29 @@ pub fn do_read(
     words: &mut [u32],
     list: &[u32],
     table: &mut Table,
+    ports: &mut [u32; 128],
     buf: &mut [u8],
     c: Run,
+    port: u32,
     ops: &[u32],
 ) -> Step
-    requires { ⌜ Ready (c .memory) (now words) (now list) (now table) × (length (now ops) ≡ 2 + 2 * c .memory .n) ⌝ }
-    ensures { λ r. ⌜ StepAs r (now (words .exit)) (now (list .entry)) (now (buf .exit)) (now (table .exit)) (done (callOf kinds.Read (c .memory .n) (c .memory .w) (now (ops .entry))) (stateOf (c .memory) (now (words .entry)) (now (list .entry))) (c .at) (out (now (buf .entry)) (c .text))) ⌝ }
+    requires { ⌜ Ready (c .memory) (now words) (now list) (now table) × PortsValid (stateOf (c .memory) (now words) (now list) (now ports)) × (length (now ops) ≡ 2 + 2 * c .memory .n) ⌝ }
+    ensures { λ r. ⌜ StepAs r (now (words .exit)) (now (list .entry)) (now (buf .exit)) (now (table .exit)) (now (ports .exit)) (done (callOf kinds.Read port (c .memory .n) (c .memory .w) (now (ops .entry))) (stateOf (c .memory) (now (words .entry)) (now (list .entry)) (now (ports .entry))) (c .at) (out (now (buf .entry)) (c .text))) ⌝ }
 {
     let memory = c.memory;
     let size = 2 * (memory.w as usize);
     let mut word: [u32; 32] = [0; 32];
-    read_into(words, list, table, buf, c, ops, &mut word[..size])
+    read_into(
+        words,
+        list,
+        table,
+        ports,
+        buf,
+        c,
+        port,
+        ops,
+        &mut word[..size],
+    )
 }
 
 // A check, and its line.
@@ -69,7 +94,7 @@ pub fn do_check(
     ops: &[u32],
 ) -> Step
     requires { ⌜ Ready (c .memory) (now words) (now list) (now table) × (length (now ops) ≡ 1 + 2 * c .memory .n + 2 * c .memory .w) ⌝ }
-    ensures { λ r. ⌜ StepAs r (now (words .exit)) (now (list .entry)) (now (buf .exit)) (now (table .exit)) (done (callOf kinds.Check (c .memory .n) (c .memory .w) (now (ops .entry))) (stateOf (c .memory) (now (words .entry)) (now (list .entry))) (c .at) (out (now (buf .entry)) (c .text))) ⌝ }
+    ensures { λ r. ⌜ ((ps : List ℕ) → StepAs r (now (words .exit)) (now (list .entry)) (now (buf .exit)) (now (table .exit)) ps (done (callOf kinds.Check 0 (c .memory .n) (c .memory .w) (now (ops .entry))) (stateOf (c .memory) (now (words .entry)) (now (list .entry)) ps) (c .at) (out (now (buf .entry)) (c .text)))) ⌝ }
 {
     let memory = c.memory;
     let a = reading::address_end(1, memory.n);

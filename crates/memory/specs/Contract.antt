@@ -4,9 +4,10 @@ use mathlib.Core.Bool.{Bool}
 use mathlib.Core.List.{List}
 use Prim.Native.Nat.{ℕ}
 use Rattle.model.specs.Record as model
-use Rattle.model.specs.Step.{State, NodeCall, read, place, filled, entered, kept, accepted, valued, node, Answer, refused, done, answerWords}
+use Rattle.model.specs.Step.{State, NodeCall, read, place, filled, entered, kept, accepted, valued, node, Answer, refused, done, answerWords, Access}
 use Rattle.rows.specs.declared.Fields.{Fields}
 use Rattle.rows.specs.Contract as rows
+use Rattle.model.specs.Chain.{AnswersNode}
 pub use Rattle.rows.specs.Contract.{Answers, Next, AnswersOn}
 pub use Rattle.node_calls.specs.Contract.{numbered, freshed}
 use Rattle.memory.specs.declared.Record.{Record}
@@ -25,15 +26,19 @@ use Rattle.memory.specs.declared.NodeAnswer.the-variants as node
 use Rattle.memory.specs.declared.ValueAnswer.{ValueAnswer}
 use Rattle.memory.specs.declared.ValueAnswer.the-variants as value
 
--- the record, node words and list of a call
+-- the record, node words, list and ports of a call
 abbrev pub fieldsOf : Record → Fields
 fieldsOf r = record { n = r .n; w = r .w; count = r .count; entries = r .entries; asserted = r .asserted; checked = r .checked }
 
 abbrev pub recordOf : Record → model.Record
 recordOf r = rows.recordOf (fieldsOf r)
 
-abbrev pub stateOf : Record → List ℕ → List ℕ → State
-stateOf r w l = record { rec = recordOf r; words = w; list = l }
+abbrev pub stateOf : Record → List ℕ → List ℕ → List ℕ → State
+stateOf r w l ps = rows.portedOf (fieldsOf r) w l ps
+
+-- of a call that sees no ports
+abbrev pub memoryOf : Record → List ℕ → List ℕ → State
+memoryOf r w l = rows.stateOf (fieldsOf r) w l
 
 abbrev pub freshAnswer : FreshAnswer → Answer
 freshAnswer fresh.Accepted = done accepted
@@ -73,15 +78,24 @@ Says r f a b = (fieldsOf r ≡ f) × (a ≡ b)
 abbrev pub SaysRead : Record → Fields → ReadAnswer → ℕ → Type 0
 SaysRead r f x k = (out : List ℕ) → Says r f (readAnswer x out) (rows.unlessRefused k (filled out))
 
--- a call that is lent no list: whatever the list is, it stays
-abbrev pub AnswersNoList : NodeCall → Record → List ℕ → Record → List ℕ → Answer → Type 0
-AnswersNoList c r w r′ w′ a = rows.AnswersAnyList c (recordOf r) w (recordOf r′) w′ a
+-- an access that is lent no ports: whatever they are, they stay
+abbrev pub AnswersAnyPorts : Access → Record → List ℕ → List ℕ → Record → List ℕ → List ℕ → Answer → Type 0
+AnswersAnyPorts c r w l r′ w′ l′ a = (ps : List ℕ) → Answers c (stateOf r w l ps) (stateOf r′ w′ l′ ps) a
 
--- a read: its step, and the answer words as it leaves them
-pub record ReadAnswers (r : Record) (w l e a out : List ℕ) (r′ : Record) (w′ out′ : List ℕ) (x : ReadAnswer) : Type 0 where
-  pub is : Answers (read e a out) (stateOf r w l) (stateOf r′ w′ l) (readAnswer x out′)
+-- to a valid memory, with the table lent
+pub record AnswersOnAnyPorts (c : Access) (r : Record) (w l : List ℕ) (r′ : Record) (w′ l′ : List ℕ) (a : Answer) (table : List ℕ) : Type 0 where
+  pub is : AnswersAnyPorts c r w l r′ w′ l′ a
+  pub sound : Next (memoryOf r′ w′ l′) a table
+
+-- a call that is lent no list and no ports: whatever they are, they stay
+abbrev pub AnswersNoList : NodeCall → Record → List ℕ → Record → List ℕ → Answer → Type 0
+AnswersNoList c r w r′ w′ a = (l ps : List ℕ) → AnswersNode c (stateOf r w l ps) (stateOf r′ w′ l ps) a
+
+-- a read at port p: its step, and the answer words as it leaves them
+pub record ReadAnswers (r : Record) (w l ps : List ℕ) (p : ℕ) (e a out : List ℕ) (r′ : Record) (w′ ps′ out′ : List ℕ) (x : ReadAnswer) : Type 0 where
+  pub is : Answers (read p e a out) (stateOf r w l ps) (stateOf r′ w′ l ps′) (readAnswer x out′)
   pub leaves : out′ ≡ answerWords (readAnswer x out′) out
 
-pub record ReadAnswersOn (r : Record) (w l e a out : List ℕ) (r′ : Record) (w′ out′ : List ℕ) (x : ReadAnswer) (table : List ℕ) : Type 0 where
-  pub is : ReadAnswers r w l e a out r′ w′ out′ x
-  pub sound : Next (stateOf r′ w′ l) (readAnswer x out′) table
+pub record ReadAnswersOn (r : Record) (w l ps : List ℕ) (p : ℕ) (e a out : List ℕ) (r′ : Record) (w′ ps′ out′ : List ℕ) (x : ReadAnswer) (table : List ℕ) : Type 0 where
+  pub is : ReadAnswers r w l ps p e a out r′ w′ ps′ out′ x
+  pub sound : Next (stateOf r′ w′ l ps′) (readAnswer x out′) table

@@ -4,11 +4,11 @@ ghost use Prim.Native.Nat.{_*_};
 ghost use lib.ListN.{length};
 ghost use Rattle.conditions.specs.Contract.{Sound};
 ghost use Rattle.model.specs.Step.{place, accepted, node, valued, begin, write, assert, check, evaluate, variable, ite, fresh};
-ghost use Rattle.model.specs.Frames.{Valid};
-ghost use Rattle.rows.specs.Contract.{unlessRefused, Answers, AnswersOn};
+ghost use Rattle.model.specs.Frames.{Valid, PortsValid};
+ghost use Rattle.rows.specs.Contract.{unlessRefused};
 ghost use Rattle.node_calls.specs.Contract.{numbered, freshed};
 ghost use Rattle.assert_access.specs.Contract as assert_access;
-ghost use Rattle.memory.specs.Contract.{fieldsOf, recordOf, stateOf, freshAnswer, writeAnswer, assertAnswer, checkAnswer, nodeAnswer, valueAnswer, Says, SaysRead, AnswersNoList, ReadAnswers, ReadAnswersOn};
+ghost use Rattle.memory.specs.Contract.{fieldsOf, recordOf, stateOf, memoryOf, freshAnswer, writeAnswer, assertAnswer, checkAnswer, nodeAnswer, valueAnswer, Says, SaysRead, AnswersAnyPorts, AnswersOnAnyPorts, AnswersNoList, ReadAnswers, ReadAnswersOn};
 use access::ControlNode;
 use assert_access::AssertDone;
 use conditions::Table;
@@ -253,11 +253,11 @@ impl Record {
         }
     }
 
-    // Fresh: a memory with no entries and both conditions 1, over node words that hold the two terminals.
-    pub fn fresh(self, words: &mut [u32], n: u32, w: u32) -> FreshResult
-        ensures { λ r. ⌜ freshed (fresh (recordOf self) n w (now (words .entry))) ≡ (freshAnswer (r .answer), recordOf (r .after), now (words .exit)) ⌝ }
+    // Fresh: a memory with no entries and both conditions 1, over node words that hold the two terminals, and ports that hold X.
+    pub fn fresh(self, words: &mut [u32], ports: &mut [u32; 128], n: u32, w: u32) -> FreshResult
+        ensures { λ r. ⌜ freshed (fresh (recordOf self) n w (now (words .entry)) (now (ports .entry))) ≡ (freshAnswer (r .answer), recordOf (r .after), now (words .exit), now (ports .exit)) ⌝ }
     {
-        fresh_result(node_calls::fresh(self.fields(), words, n, w))
+        fresh_result(node_calls::fresh(self.fields(), words, ports, n, w))
     }
 
     // The value of node f under the 64-bit assignment a.
@@ -291,8 +291,8 @@ impl Record {
         address: &[u32],
         data: &[u32],
     ) -> WriteResult
-        requires { ⌜ Valid (stateOf self (now words) (now list)) × Sound (now words) (now table) (begin (recordOf self)) × (length (now enable) ≡ 2) × (length (now address) ≡ 2 * self .n) × (length (now «data») ≡ 2 * self .w) ⌝ }
-        ensures { λ r. ⌜ AnswersOn (write (now (enable .entry)) (now (address .entry)) (now («data» .entry))) (stateOf self (now (words .entry)) (now (list .entry))) (stateOf (r .after) (now (words .exit)) (now (list .exit))) (writeAnswer (r .answer)) (now (table .exit)) ⌝ }
+        requires { ⌜ Valid (memoryOf self (now words) (now list)) × Sound (now words) (now table) (begin (recordOf self)) × (length (now enable) ≡ 2) × (length (now address) ≡ 2 * self .n) × (length (now «data») ≡ 2 * self .w) ⌝ }
+        ensures { λ r. ⌜ AnswersOnAnyPorts (write (now (enable .entry)) (now (address .entry)) (now («data» .entry))) self (now (words .entry)) (now (list .entry)) (r .after) (now (words .exit)) (now (list .exit)) (writeAnswer (r .answer)) (now (table .exit)) ⌝ }
     {
         let f = self.fields();
         write_result(
@@ -310,7 +310,7 @@ impl Record {
         address: &[u32],
         data: &[u32],
     ) -> WriteResult
-        ensures { λ r. ⌜ Answers (write (now (enable .entry)) (now (address .entry)) (now («data» .entry))) (stateOf self (now (words .entry)) (now (list .entry))) (stateOf (r .after) (now (words .exit)) (now (list .exit))) (writeAnswer (r .answer)) ⌝ }
+        ensures { λ r. ⌜ AnswersAnyPorts (write (now (enable .entry)) (now (address .entry)) (now («data» .entry))) self (now (words .entry)) (now (list .entry)) (r .after) (now (words .exit)) (now (list .exit)) (writeAnswer (r .answer)) ⌝ }
     {
         let f = self.fields();
         write_result(
@@ -319,36 +319,50 @@ impl Record {
         )
     }
 
-    // A read of a valid memory: rows 5 to 9, and the word.
+    // A read of a valid memory with valid ports: rows 14 and 5 to 9, and the word, which its port then holds.
     pub fn read_on(
         self,
         words: &mut [u32],
         list: &[u32],
         table: &mut Table,
+        ports: &mut [u32; 128],
+        port: u32,
         enable: &[u32],
         address: &[u32],
         answer: &mut [u32],
     ) -> ReadResult
-        requires { ⌜ Valid (stateOf self (now words) (now list)) × Sound (now words) (now table) (begin (recordOf self)) × (length (now enable) ≡ 2) × (length (now address) ≡ 2 * self .n) × (length (now answer) ≡ 2 * self .w) ⌝ }
-        ensures { λ r. ⌜ ReadAnswersOn self (now (words .entry)) (now (list .entry)) (now (enable .entry)) (now (address .entry)) (now (answer .entry)) (r .after) (now (words .exit)) (now (answer .exit)) (r .answer) (now (table .exit)) ⌝ }
+        requires { ⌜ Valid (stateOf self (now words) (now list) (now ports)) × PortsValid (stateOf self (now words) (now list) (now ports)) × Sound (now words) (now table) (begin (recordOf self)) × (length (now enable) ≡ 2) × (length (now address) ≡ 2 * self .n) × (length (now answer) ≡ 2 * self .w) ⌝ }
+        ensures { λ r. ⌜ ReadAnswersOn self (now (words .entry)) (now (list .entry)) (now (ports .entry)) port (now (enable .entry)) (now (address .entry)) (now (answer .entry)) (r .after) (now (words .exit)) (now (ports .exit)) (now (answer .exit)) (r .answer) (now (table .exit)) ⌝ }
     {
         let f = self.fields();
-        read_result(read_access::read_on(f, words, list, table, enable, address, answer))
+        read_result(read_access::read_on(
+            f,
+            words,
+            list,
+            table,
+            ports,
+            port,
+            enable,
+            address,
+            answer,
+        ))
     }
 
-    // Read(e, a).
+    // Read(e, a), at a port.
     pub fn read(
         self,
         words: &mut [u32],
         list: &[u32],
+        ports: &mut [u32; 128],
+        port: u32,
         enable: &[u32],
         address: &[u32],
         answer: &mut [u32],
     ) -> ReadResult
-        ensures { λ r. ⌜ ReadAnswers self (now (words .entry)) (now (list .entry)) (now (enable .entry)) (now (address .entry)) (now (answer .entry)) (r .after) (now (words .exit)) (now (answer .exit)) (r .answer) ⌝ }
+        ensures { λ r. ⌜ ReadAnswers self (now (words .entry)) (now (list .entry)) (now (ports .entry)) port (now (enable .entry)) (now (address .entry)) (now (answer .entry)) (r .after) (now (words .exit)) (now (ports .exit)) (now (answer .exit)) (r .answer) ⌝ }
     {
         let f = self.fields();
-        read_result(read_access::read(f, words, list, enable, address, answer))
+        read_result(read_access::read(f, words, list, ports, port, enable, address, answer))
     }
 
     // A check of a valid memory: rows 5 to 9, and the check condition.
@@ -361,8 +375,8 @@ impl Record {
         address: &[u32],
         data: &[u32],
     ) -> CheckResult
-        requires { ⌜ Valid (stateOf self (now words) (now list)) × Sound (now words) (now table) (begin (recordOf self)) × (length (now address) ≡ 2 * self .n) × (length (now «data») ≡ 2 * self .w) ⌝ }
-        ensures { λ r. ⌜ AnswersOn (check (b .0) (now (address .entry)) (now («data» .entry))) (stateOf self (now (words .entry)) (now (list .entry))) (stateOf (r .after) (now (words .exit)) (now (list .entry))) (checkAnswer (r .answer)) (now (table .exit)) ⌝ }
+        requires { ⌜ Valid (memoryOf self (now words) (now list)) × Sound (now words) (now table) (begin (recordOf self)) × (length (now address) ≡ 2 * self .n) × (length (now «data») ≡ 2 * self .w) ⌝ }
+        ensures { λ r. ⌜ AnswersOnAnyPorts (check (b .0) (now (address .entry)) (now («data» .entry))) self (now (words .entry)) (now (list .entry)) (r .after) (now (words .exit)) (now (list .entry)) (checkAnswer (r .answer)) (now (table .exit)) ⌝ }
     {
         let f = self.fields();
         check_result(check_access::check_on(f, words, list, table, b, address, data))
@@ -377,7 +391,7 @@ impl Record {
         address: &[u32],
         data: &[u32],
     ) -> CheckResult
-        ensures { λ r. ⌜ Answers (check (b .0) (now (address .entry)) (now («data» .entry))) (stateOf self (now (words .entry)) (now (list .entry))) (stateOf (r .after) (now (words .exit)) (now (list .entry))) (checkAnswer (r .answer)) ⌝ }
+        ensures { λ r. ⌜ AnswersAnyPorts (check (b .0) (now (address .entry)) (now («data» .entry))) self (now (words .entry)) (now (list .entry)) (r .after) (now (words .exit)) (now (list .entry)) (checkAnswer (r .answer)) ⌝ }
     {
         let f = self.fields();
         check_result(check_access::check(f, words, list, b, address, data))
@@ -393,8 +407,8 @@ impl Record {
         address: &[u32],
         data: &[u32],
     ) -> AssertResult
-        requires { ⌜ Valid (stateOf self (now words) (now list)) × Sound (now words) (now table) (begin (recordOf self)) × (length (now address) ≡ 2 * self .n) × (length (now «data») ≡ 2 * self .w) ⌝ }
-        ensures { λ r. ⌜ AnswersOn (assert (b .0) (now (address .entry)) (now («data» .entry))) (stateOf self (now (words .entry)) (now (list .entry))) (stateOf (r .after) (now (words .exit)) (now (list .exit))) (assertAnswer (r .answer)) (now (table .exit)) ⌝ }
+        requires { ⌜ Valid (memoryOf self (now words) (now list)) × Sound (now words) (now table) (begin (recordOf self)) × (length (now address) ≡ 2 * self .n) × (length (now «data») ≡ 2 * self .w) ⌝ }
+        ensures { λ r. ⌜ AnswersOnAnyPorts (assert (b .0) (now (address .entry)) (now («data» .entry))) self (now (words .entry)) (now (list .entry)) (r .after) (now (words .exit)) (now (list .exit)) (assertAnswer (r .answer)) (now (table .exit)) ⌝ }
     {
         let f = self.fields();
         assert_result(assert_access::assert_on(f, words, list, table, b, address, data))
@@ -409,7 +423,7 @@ impl Record {
         address: &[u32],
         data: &[u32],
     ) -> AssertResult
-        ensures { λ r. ⌜ Answers (assert (b .0) (now (address .entry)) (now («data» .entry))) (stateOf self (now (words .entry)) (now (list .entry))) (stateOf (r .after) (now (words .exit)) (now (list .exit))) (assertAnswer (r .answer)) ⌝ }
+        ensures { λ r. ⌜ AnswersAnyPorts (assert (b .0) (now (address .entry)) (now («data» .entry))) self (now (words .entry)) (now (list .entry)) (r .after) (now (words .exit)) (now (list .exit)) (assertAnswer (r .answer)) ⌝ }
     {
         let f = self.fields();
         assert_result(assert_access::assert(f, words, list, b, address, data))

@@ -3,6 +3,7 @@ use called::Done;
 use stored::Item;
 use stored::Words;
 use stored::changed;
+use stored::changed_ports;
 use stored::length;
 
 // An access that is lent so many node words and list words.
@@ -11,19 +12,29 @@ fn lend(
     r: [u32; 6],
     nodes: &mut [u32],
     list: &mut [u32],
+    ports: &mut [u32; 128],
     enable: &[u32],
     address: &[u32],
     data: &mut [u32],
 ) -> Done {
     let m = length(x.a, nodes.len());
     let k = length(x.b, list.len());
-    called::access(x, r, &mut nodes[..m], &mut list[..k], enable, address, data)
+    called::access(
+        x,
+        r,
+        &mut nodes[..m],
+        &mut list[..k],
+        ports,
+        enable,
+        address,
+        data,
+    )
 }
 
 // A call that is lent so many node words.
-fn lend_nodes(x: Item, r: [u32; 6], nodes: &mut [u32]) -> Done {
+fn lend_nodes(x: Item, r: [u32; 6], nodes: &mut [u32], ports: &mut [u32; 128]) -> Done {
     let m = length(x.a, nodes.len());
-    called::node_call(x, r, &mut nodes[..m])
+    called::node_call(x, r, &mut nodes[..m], ports)
 }
 
 fn once(
@@ -31,22 +42,24 @@ fn once(
     r: [u32; 6],
     nodes: &mut Words,
     list: &mut Words,
+    ports: &mut [u32; 128],
     enable: &Words,
     address: &Words,
     data: &mut Words,
 ) -> Done {
     if x.kind < 5 {
-        return lend(x, r, nodes, list, enable, address, data);
+        return lend(x, r, nodes, list, ports, enable, address, data);
     }
-    lend_nodes(x, r, nodes)
+    lend_nodes(x, r, nodes, ports)
 }
 
-// The same call so many times, each from where the one before it left off; the last.
+// The same call so many times, each from where the one before it left off, a read once; the last.
 fn repeat(
     x: Item,
     r: [u32; 6],
     nodes: &mut Words,
     list: &mut Words,
+    ports: &mut [u32; 128],
     enable: &Words,
     address: &Words,
     data: &mut Words,
@@ -56,10 +69,10 @@ fn repeat(
         out: 7,
         record: r,
     };
-    let mut left = x.f;
+    let mut left = if x.kind == 2 { 1 } else { x.f };
     while left > 0 {
         let record = done.record;
-        done = once(x, record, nodes, list, enable, address, data);
+        done = once(x, record, nodes, list, ports, enable, address, data);
         left -= 1;
     }
     done
@@ -71,6 +84,7 @@ pub fn call(
     r: [u32; 6],
     nodes: &mut Words,
     list: &mut Words,
+    ports: &mut [u32; 128],
     enable: &Words,
     address: &Words,
     data: &mut Words,
@@ -78,7 +92,8 @@ pub fn call(
     let old_nodes = *nodes;
     let old_list = *list;
     let old_data = *data;
-    let done = repeat(x, r, nodes, list, enable, address, data);
+    let old_ports = *ports;
+    let done = repeat(x, r, nodes, list, ports, enable, address, data);
     stored::bytes(b"call");
     stored::word(x.g);
     stored::word(done.row);
@@ -88,6 +103,7 @@ pub fn call(
     changed(b"; nodes ", &old_nodes, nodes);
     changed(b"; list ", &old_list, list);
     changed(b"; data ", &old_data, data);
+    changed_ports(b"; ports ", &old_ports, ports);
     stored::bytes(b"\n");
     record
 }

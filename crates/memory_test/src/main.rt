@@ -13,6 +13,7 @@ fn store(
     control: &mut Words,
     address: &mut Words,
     data: &mut Words,
+    ports: &mut [u32; 128],
 ) {
     let buffer = x.a;
     match buffer {
@@ -20,7 +21,8 @@ fn store(
         1 => stored::put(x, list),
         2 => stored::put(x, control),
         3 => stored::put(x, address),
-        _ => stored::put(x, data),
+        4 => stored::put(x, data),
+        _ => stored::put(x, ports),
     }
 }
 
@@ -33,15 +35,16 @@ fn run(
     control: &mut Words,
     address: &mut Words,
     data: &mut Words,
+    ports: &mut [u32; 128],
 ) -> [u32; 6] {
     if x.kind == 10 {
         return [x.a, x.b, x.c, x.d, x.e, x.f];
     }
     if x.kind == 9 {
-        store(x, nodes, list, control, address, data);
+        store(x, nodes, list, control, address, data, ports);
         return r;
     }
-    calls::call(x, r, nodes, list, control, address, data)
+    calls::call(x, r, nodes, list, ports, control, address, data)
 }
 
 // All items, on buffers of zeros at first.
@@ -52,6 +55,7 @@ fn main() {
     let mut control: Words = [0; 49160];
     let mut address: Words = [0; 49160];
     let mut data: Words = [0; 49160];
+    let mut ports: [u32; 128] = [0; 128];
     let mut left: u32 = 1_000_000;
     while left > 0 {
         let x = stored::next();
@@ -66,6 +70,7 @@ fn main() {
             &mut control,
             &mut address,
             &mut data,
+            &mut ports,
         );
         r = after;
         left -= 1;

@@ -15,10 +15,10 @@ use Rattle.conditions.specs.Meaning.{Meaning, Builds}
 use Rattle.conditions.proofs.Promises.{pure-builds, next-builds, builds-weaker, each-builds}
 use Rattle.model.specs.Pairs.{Pair, X, admit, admits, known, unique, at}
 use Rattle.model.specs.Record.{Record, hAt, lAt, entryAt, addressOf, dataOf}
-use Rattle.model.specs.Access.{uniqueBit, Unique, Marks, Certain, Write, narrowBit, Narrow, halfStep, EachHalf, mergeHalf, entryStep, settleHalf, Look, maskHalf, Read, insideHalf, Inside, Check, AssertBuilt, Assert}
-use Rattle.model.specs.Published.{Entry, certain, entry, union, look, answer, inside, assertHolds, checkHolds, keeps}
+use Rattle.model.specs.Access.{uniqueBit, Unique, Marks, Certain, Write, narrowBit, Narrow, halfStep, EachHalf, mergeHalf, entryStep, settleHalf, Look, holdHalf, Read, insideHalf, Inside, Check, AssertBuilt, Assert}
+use Rattle.model.specs.Published.{Entry, certain, entry, union, look, holding, answer, inside, assertHolds, checkHolds, keeps}
 use Rattle.model.proofs.MeansLaws.{Means, means-as, means-from, up, one-means, ite-means, not-means, and-means, or-means, variable-means, any-means, placed, place, length-place}
-use Rattle.model.proofs.HalfLaws.{halfOf, half-even, half-odd, half-same, half-X, half-over, half-mask, overIn, scanIn, scanIn-snoc, look-is, unique-more, admits-more, insideHalves, inside-halves}
+use Rattle.model.proofs.HalfLaws.{halfOf, half-even, half-odd, half-same, half-X, half-over, half-hold, overIn, scanIn, scanIn-snoc, look-is, unique-more, admits-more, insideHalves, inside-halves}
 
 -- steps for each number from 0 on
 each : {A : Type 0} (f : ℕ → A → Build A) (I : ℕ → List ℕ → Store → A → Type 0) (k : ℕ)
@@ -260,19 +260,27 @@ module _ {σ : ℕ → Bool} (r : Record) (l : List ℕ) (small : r .n ≤ 8) wh
           let Y2 = any-means (Y1 .standard) (Y1 .post) in
           builds-weaker (next-builds Y1 _ Y2) (λ N. means-as N (λ τ. look-is (r .n) small es qs j τ))
 
-  pub read-means : (es : List Entry) (eh el : ℕ) (a : List ℕ) (e : Pair) (qs : List Pair) → length qs ≡ r .n → (w : List ℕ) (s : Store) → Standard w (s .count) → EntriesMean σ r es w s l
-      → Means σ 8 (λ τ. e .h) w s eh → Means σ 8 (λ τ. e .l) w s el → Halves σ 8 (2 * r .n) (λ τ. at qs) w s a → Builds w s (Word σ 8 (2 * r .w) (λ τ. answer (r .n) es e qs)) (Read r l eh el a w s)
+  -- each half of a look beside the same half of the word that the port holds
+  hold-means : (e : Pair) (f g : ℕ → Pair) (eh held-s j x : ℕ) (held : List ℕ) (w : List ℕ) (s : Store) → j < 2 * r .w → Standard w (s .count) → Means σ 8 (λ τ. e .h && e .l) w s held-s → Means σ 8 (λ τ. e .h) w s eh
+      → Halves σ 8 (2 * r .w) (λ τ. g) w s held → Means σ 8 (λ τ. halfOf j f) w s x → Builds w s (Means σ 8 (λ τ. halfOf j (λ i. holding e (f i) (g i)))) (holdHalf held-s eh (getD held j 0) x w s)
+  unfolding holdHalf
+  hold-means e f g eh held-s j x held w s h S B H G R =
+      let Z1 = ite-means S B R H in
+      let Z2 = ite-means (Z1 .standard) (Z1 .post) (up S Z1 R) (up S Z1 (G .half j h)) in
+      builds-weaker (next-builds Z1 _ Z2) (λ N. means-as N (λ τ. half-hold e j f g))
+
+  pub read-means : (es : List Entry) (eh el : ℕ) (held a : List ℕ) (e : Pair) (g : ℕ → Pair) (qs : List Pair) → length qs ≡ r .n → (w : List ℕ) (s : Store) → Standard w (s .count) → EntriesMean σ r es w s l
+      → Means σ 8 (λ τ. e .h) w s eh → Means σ 8 (λ τ. e .l) w s el → Halves σ 8 (2 * r .w) (λ τ. g) w s held → Halves σ 8 (2 * r .n) (λ τ. at qs) w s a
+      → Builds w s (Word σ 8 (2 * r .w) (λ τ. answer (r .n) es g e qs)) (Read r l held eh el a w s)
   unfolding Read
-  read-means es eh el a e qs len w s S E H L A =
+  read-means es eh el held a e g qs len w s S E H L G A =
       let X1 = look-means es a qs len w s S E A in
-      let X2 = certain-means {c = e} (X1 .standard) (up S X1 H) (up S X1 L) in
-      let X3 = each-half (λ w s. Means σ 8 (λ τ. certain e) w s _) (λ A w s P x S X M. up S X M) (λ k. maskHalf _) (2 * r .w) 8 8 (λ τ. look (r .n) es qs) (λ τ. answer (r .n) es e qs)
-      (λ j x w s h S I R. mask j x _ w s S I R) _ _ _ (X2 .standard) (X2 .post) (X1 .post .size) (up-halves (X1 .standard) X2 (X1 .post .halves)) in
+      let X2 = and-means (X1 .standard) (up S X1 H) (up S X1 L) in
+      let X3 = each-half (λ w s. Means σ 8 (λ τ. e .h && e .l) w s _ × Means σ 8 (λ τ. e .h) w s eh × Halves σ 8 (2 * r .w) (λ τ. g) w s held) (λ A w s P x S X M. (up S X (M .0), up S X (M .1), up-halves S X (M .2)))
+      (λ k. holdHalf _ eh (getD held k 0)) (2 * r .w) 8 8 (λ τ. look (r .n) es qs) (λ τ. answer (r .n) es g e qs)
+      (λ j x w s h S I R. hold-means e (look (r .n) es qs) g eh _ j x held w s h S (I .0) (I .1) (I .2) R) _ _ _ (X2 .standard)
+      (X2 .post, up (X1 .standard) X2 (up S X1 H), up-halves (X1 .standard) X2 (up-halves S X1 G)) (X1 .post .size) (up-halves (X1 .standard) X2 (X1 .post .halves)) in
       next-builds X1 _ (next-builds X2 _ (builds-weaker X3 (λ Q. record { size = Q .0; halves = Q .1 })))
-    where
-      mask : (j x en : ℕ) (w : List ℕ) (s : Store) → Standard w (s .count) → Means σ 8 (λ τ. certain e) w s en → Means σ 8 (λ τ. halfOf j (look (r .n) es qs)) w s x
-          → Builds w s (Means σ 8 (λ τ. halfOf j (answer (r .n) es e qs))) (maskHalf en x w s)
-      mask j x en w s S I R = builds-weaker (ite-means S I R (one-means 8 (omega arith) S)) (λ N. means-as N (λ τ. half-mask (certain e) j (look (r .n) es qs)))
 
 module _ {σ : ℕ → Bool} where
   pub inside-means : (k : ℕ) (x y : List ℕ) (f g : ℕ → Pair) (w : List ℕ) (s : Store) → Standard w (s .count) → Halves σ 8 (2 * k) (λ τ. f) w s x → Halves σ 8 (2 * k) (λ τ. g) w s y

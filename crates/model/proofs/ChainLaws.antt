@@ -10,12 +10,13 @@ use Rattle.conditions.specs.Value.{value}
 use Rattle.conditions.specs.Assignment.{bitAt}
 use Rattle.model.specs.Record.{Record}
 use Rattle.model.specs.Step.{State, Call, accepted, Answer, refused, done, Result, isRefused, step, run, Fresh, fresh}
-use Rattle.model.specs.Array.{Event, Run, observed, Returns, Allowed}
-use Rattle.model.specs.Claims.{event, events, BitMay, May, Begins, Exactly, Demand3, FromFresh}
+use Rattle.model.specs.Array.{Event, Run, observed, Returns, Allowed, lastMemory}
+use Rattle.model.specs.Claims.{event, events, BitMay, May, Begins, Exactly, Demand3, FromFresh, HeldMay}
 use Rattle.model.specs.Frames.{acceptedWrites, accepts, CountAtMost}
 use Rattle.model.specs.Chain.{numbered, freshed, Link, Chained, lastState, eventsOf, MayBe, ExactlyRuns, ChainExactly, writesOf, ChainCount}
 use Rattle.model.proofs.Demand3.{demand3, from-fresh}
 use Rattle.model.proofs.FrameLaws.{count-at-most}
+use Rattle.model.specs.Pairs.{bit}
 
 calls : List Link → List Call
 calls [] = []
@@ -49,6 +50,9 @@ chain-from s B ks C a h =
       bits = λ j i m b.
           subst (λ (P : Type 0). P ↔ ((r : Run (s .rec .w) (eventsOf φ s ks)) × Returns (observed (s .rec .w) (eventsOf φ s ks) r j) i b)) (chain-may φ s ks j i b C)
           (subst (λ (es : List Event). May φ s (calls ks) j i b ↔ ((r : Run (s .rec .w) es) × Returns (observed (s .rec .w) es r j) i b)) E (X .bits j i m b));
+      holds = λ p i l m b.
+          subst (λ (t : State). HeldMay φ t p i b ↔ ((r : Run (s .rec .w) (eventsOf φ s ks)) × (bit (lastMemory (s .rec .w) (eventsOf φ s ks) r .ports p) i ≡ b))) (chain-run s ks C)
+          (subst (λ (es : List Event). HeldMay φ (run (calls ks) s) p i b ↔ ((r : Run (s .rec .w) es) × (bit (lastMemory (s .rec .w) es r .ports p) i ≡ b))) E (X .holds p i l m b));
       checking = subst (λ (t : State). T (value (t .words) φ (t .rec .checked)) ↔ ((r : Run (s .rec .w) (eventsOf φ s ks)) (j : ℕ) → Allowed (observed (s .rec .w) (eventsOf φ s ks) r j))) (chain-run s ks C)
           (subst (λ (es : List Event). T (value (run (calls ks) s .words) φ (run (calls ks) s .rec .checked)) ↔ ((r : Run (s .rec .w) es) (j : ℕ) → Allowed (observed (s .rec .w) es r j))) E (X .checking));
     }
@@ -59,16 +63,16 @@ accepted-zero zero e = refl
 accepted-zero (suc k) e = absurd (true≢false (ap isRefused e))
 
 -- an accepted Fresh leaves a state in which lists of calls may begin
-fresh-begins : (given : Record) (n w : ℕ) (ws : List ℕ) (rec : Record) (words list : List ℕ) → freshed (fresh given n w ws) ≡ (done accepted, rec, words) → Begins (record { rec = rec; words = words; list = list })
+fresh-begins : (given : Record) (n w : ℕ) (ws ps : List ℕ) (s : State) → freshed (fresh given n w ws ps) ≡ (done accepted, s .rec, s .words, s .ports) → Begins s
 unfolding FromFresh
-fresh-begins given n w ws rec words list e =
-    let x = fresh given n w ws in
-    let z = accepted-zero (x .answer) (ap (λ (t : Answer × Record × List ℕ). t .0) e) in
-    subst (λ (t : Answer × Record × List ℕ). Begins (record { rec = t .1; words = t .2; list = list })) e (from-fresh given n w ws list z)
+fresh-begins given n w ws ps s e =
+    let x = fresh given n w ws ps in
+    let z = accepted-zero (x .answer) (ap (λ (t : Answer × Record × List ℕ × List ℕ). t .0) e) in
+    subst (λ (t : Answer × Record × List ℕ × List ℕ). Begins (record { rec = t .1; words = t .2; list = s .list; ports = t .3 })) e (from-fresh given n w ws ps (s .list) z)
 
 pub chain-exactly : ChainExactly
 unfolding ChainExactly
-chain-exactly given n w ws rec words list e ks C a h = chain-from (record { rec = rec; words = words; list = list }) (fresh-begins given n w ws rec words list e) ks C a h
+chain-exactly given n w ws ps s e ks C a h = chain-from s (fresh-begins given n w ws ps s e) ks C a h
 
 -- and the count of its entries
 chain-accepts : (s : State) (ks : List Link) → Chained s ks → accepts (calls ks) s ≡ writesOf ks
@@ -79,8 +83,7 @@ chain-accepts s (k ∷ ks) C =
 
 pub chain-count : ChainCount
 unfolding ChainCount CountAtMost
-chain-count given n w ws rec words list e ks C =
-    let s : State = record { rec = rec; words = words; list = list } in
-    let B = fresh-begins given n w ws rec words list e in
-    let m : lastState s ks .rec .entries ≤ rec .entries + writesOf ks = rw (← chain-run s ks C, ← chain-accepts s ks C) (count-at-most (calls ks) s) in
+chain-count given n w ws ps s e ks C =
+    let B = fresh-begins given n w ws ps s e in
+    let m : lastState s ks .rec .entries ≤ s .rec .entries + writesOf ks = rw (← chain-run s ks C, ← chain-accepts s ks C) (count-at-most (calls ks) s) in
     omega (arith, m, B .entries)

@@ -25,14 +25,16 @@ use Rattle.model.specs.Rows.{row8}
 use Rattle.model.specs.Step.{State, write, read, assert, check, evaluate, variable, ite, Call, access, nodeCall, Given, place, filled, entered, kept, accepted, valued, node, done, isRefused, Result, refusal, Finish, full, short, gives, closed, unlessFull, begin, grown, withEntry, withAssertCondition, assertFirst, enter, finishAccess, finishNode, finish, turnedDownBy, step}
 use Rattle.model.specs.Published.{answer, assertHolds, checkHolds, keeps, control}
 use Rattle.model.specs.Claims.{pairAt}
-use Rattle.model.specs.Meanings.{entryValues, addressArgument, wordArgument, Enters, Demand2, EnteredWhere}
-use Rattle.model.specs.Table.{MemoryFacts}
+use Rattle.model.specs.Meanings.{entryValues, addressArgument, wordArgument, Enters, Demand2, EnteredWhere, portValue}
+use Rattle.model.specs.Table.{MemoryFacts, ReadFacts}
 use Rattle.model.proofs.PairLaws.{T→eq, eq→T}
 use Rattle.model.proofs.MeansLaws.{Means, up, near-self}
 use Rattle.model.proofs.AccessLaws.{AssertBuiltMean}
 use Rattle.model.proofs.FactLaws.{write-facts, read-facts, check-facts, assert-facts, variable-facts, ite-facts}
-use Rattle.model.proofs.StepLaws.{isKept, Holds, Follows, step-follows, free-store, pair-is, assert-builds, enter-builds}
+use Rattle.model.proofs.StepLaws.{isKept, Holds, Follows, step-follows, free-store, pair-is, assert-builds, enter-builds, PortsMean, port-is}
 use Rattle.model.proofs.EntryLaws.{held, holds-values, holds-enters, holds-stays}
+use Rattle.model.proofs.ProgramLaws.{port-halves}
+use lib.ListN.{length}
 
 -- a call that is not refused meets no row, and is what it comes to
 acts : (c : Call) (s : State) → isRefused (step c s .answer) ≡ false → (refusal c s ≡ 0) × (step c s ≡ closed s (finish c s))
@@ -102,21 +104,38 @@ module _ (a : ℕ) (small : a < 2 ^ 64) (s : State) where
       let e : done (place k) ≡ done (place (r .entries)) = sym q ∙ ap (λ (z : Result). z .answer) (free s _ _ _ (A .1) n .1) in
       (cc, holds-enters φ s _ (pairAt φ (s .words) c 0) x d (F .same-w) (rw q at (F .holds)))
 
-  read-fills : (e x out ws : List ℕ) → step (access (read e x out)) s .answer ≡ done (filled ws) → (i : ℕ) → i < r .w
-      → pairAt φ (step (access (read e x out)) s .after .words) ws i ≡ answer (r .n) (entryValues φ s) (pairAt φ (s .words) e 0) (addressArgument φ s x) i
-  read-fills e x out ws q i l =
-      let F = step-follows a small s (held φ s) (values-held (read-facts s e x out (acts (access (read e x out)) s (ap isRefused q) .0) .memory)) (access (read e x out)) in
-      same-admit _ _ (λ b. rw q at (F .bits i l b))
+  -- a read that fills words
+  module _ (p : ℕ) (e x out ws : List ℕ) (q : step (access (read p e x out)) s .answer ≡ done (filled ws)) where
+    abbrev after : State
+    after = step (access (read p e x out)) s .after
 
-  read-stays : (e x out ws : List ℕ) → step (access (read e x out)) s .answer ≡ done (filled ws) → entryValues φ (step (access (read e x out)) s .after) ≡ entryValues φ s
-  read-stays e x out ws q =
-      let F = step-follows a small s (held φ s) (values-held (read-facts s e x out (acts (access (read e x out)) s (ap isRefused q) .0) .memory)) (access (read e x out)) in
-      holds-stays φ s _ _ (F .same-w) (rw q at (F .holds))
+    abbrev word : ℕ → Pair
+    word = answer (r .n) (entryValues φ s) (portValue φ s p) (pairAt φ (s .words) e 0) (addressArgument φ s x)
+
+    read-named : ReadFacts s p e x out
+    read-named = read-facts s p e x out (acts (access (read p e x out)) s (ap isRefused q) .0)
+
+    read-follows : Follows φ s (held φ s) (access (read p e x out)) (step (access (read p e x out)) s)
+    read-follows = step-follows a small s (held φ s) (values-held (read-named .memory)) (access (read p e x out))
+
+    ports-named : PortsMean φ s (portValue φ s)
+    ports-named = record { words = λ n l. port-halves φ s n l (read-named .memory .standard) (read-named .ports) }
+
+    read-fills : (i : ℕ) → i < r .w → pairAt φ (after .words) ws i ≡ word i
+    read-fills i l = same-admit _ _ (λ b. rw q at (read-follows .bits ports-named i l b))
+
+    read-held : length (s .ports) ≡ 128 → (n i : ℕ) → n < 4 → i < r .w → portValue φ after n i ≡ cond (eqb n p) word (portValue φ s n) i
+    read-held long n i l m =
+        let P : PortsMean φ after _ = rw q at (read-follows .ports long ports-named) in
+        port-is P n i l (omega (arith, m, read-follows .same-w))
+
+    read-stays : entryValues φ after ≡ entryValues φ s
+    read-stays = holds-stays φ s _ _ _ (read-follows .same-w) (rw q at (read-follows .holds))
 
   check-stays : (b : ℕ) (x d : List ℕ) → step (access (check b x d)) s .answer ≡ done accepted → entryValues φ (step (access (check b x d)) s .after) ≡ entryValues φ s
   check-stays b x d q =
       let F = step-follows a small s (held φ s) (values-held (check-facts s b x d (acts (access (check b x d)) s (ap isRefused q) .0) .memory)) (access (check b x d)) in
-      holds-stays φ s _ _ (F .same-w) (rw q at (F .holds))
+      holds-stays φ s _ _ _ (F .same-w) (rw q at (F .holds))
 
   check-condition : (b : ℕ) (x d : List ℕ) → step (access (check b x d)) s .answer ≡ done accepted
       → value (step (access (check b x d)) s .after .words) φ (step (access (check b x d)) s .after .rec .checked)
@@ -191,12 +210,13 @@ demand2 s a small =
     record {
       write-enters = write-enters a small s;
       read-fills = read-fills a small s;
+      read-held = read-held a small s;
       assert-condition = assert-condition a small s;
       assert-kept = λ b x d q. T→eq _ ((rw q at (assert-follows a small s b x d (ap isRefused q) .keeping)) refl);
       read-stays = read-stays a small s;
       kept-stays = λ b x d q.
           let F = assert-follows a small s b x d (ap isRefused q) in
-          holds-stays (bitAt a) s _ _ (F .same-w) (rw q at (F .holds));
+          holds-stays (bitAt a) s _ _ _ (F .same-w) (rw q at (F .holds));
       check-stays = check-stays a small s;
       assert-enters = λ b x d q.
           let F = assert-follows a small s b x d (ap isRefused q) in

@@ -13,7 +13,7 @@ use Rattle.model.specs.Record.{size, entryAt}
 use Rattle.model.specs.Step.{State, begin}
 use Rattle.model.specs.Published.{Entry, entry}
 use Rattle.model.specs.Claims.{pairs}
-use Rattle.model.specs.Meanings.{entryValue, entriesFrom, entryValues, addressArgument, wordArgument, Enters}
+use Rattle.model.specs.Meanings.{entryValue, entriesFrom, entryValues, portValue, addressArgument, wordArgument, Enters}
 use Rattle.model.specs.Held.{Held, add}
 use Rattle.model.specs.Table.{Names, MemoryFacts}
 use Rattle.model.proofs.MeansLaws.{near-self}
@@ -25,7 +25,7 @@ use Rattle.model.proofs.StepLaws.{Holds, pair-is}
 
 -- what a state holds by its values
 abbrev pub held : (ℕ → Bool) → State → Held
-held φ s = record { entries = entryValues φ s; condition = value (s .words) φ (s .rec .checked) }
+held φ s = record { entries = entryValues φ s; ports = portValue φ s; condition = value (s .words) φ (s .rec .checked) }
 
 length-entries : (φ : ℕ → Bool) (s : State) (j k : ℕ) → length (entriesFrom φ s j k) ≡ k
 length-entries φ s j zero = refl
@@ -114,5 +114,5 @@ holds-enters φ s t c a d same H =
     holds-are φ t (add (held φ s) e) H (rw same (sizes-more (s .rec .w) (entryValues φ s) e (sizes-values φ s 0 (s .rec .entries)) (length-pairs φ (s .words) d 0 (s .rec .w))))
 
 -- and one that holds the same entries has the same list
-pub holds-stays : (φ : ℕ → Bool) (s t : State) (b : Bool) → t .rec .w ≡ s .rec .w → Holds φ t (record { entries = entryValues φ s; condition = b }) → entryValues φ t ≡ entryValues φ s
-holds-stays φ s t b same H = holds-are φ t (record { entries = entryValues φ s; condition = b }) H (rw same (sizes-values φ s 0 (s .rec .entries)))
+pub holds-stays : (φ : ℕ → Bool) (s t : State) (g : ℕ → ℕ → Pair) (b : Bool) → t .rec .w ≡ s .rec .w → Holds φ t (record { entries = entryValues φ s; ports = g; condition = b }) → entryValues φ t ≡ entryValues φ s
+holds-stays φ s t g b same H = holds-are φ t (record { entries = entryValues φ s; ports = g; condition = b }) H (rw same (sizes-values φ s 0 (s .rec .entries)))

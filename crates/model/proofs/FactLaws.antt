@@ -19,10 +19,10 @@ use Rattle.conditions.specs.Assignment.{bitAt}
 use Rattle.conditions.specs.User.{isUser}
 use Rattle.conditions.specs.Meet.{neither, together, SomeNeither, SomeTogether, Decides}
 use Rattle.conditions.proofs.Promises.{standard-is, is-standard, user-stands, stands-user, neither-decides, together-decides}
-use Rattle.model.specs.Record.{Record, hAt, lAt, size, listCapacity}
-use Rattle.model.specs.Rows.{Row, firstRow, users, legalPairs, row1, row2, row3, spaceFor, writeRows, readRows, checkRows, assertRows, evaluateRows, variableRows, iteRows}
+use Rattle.model.specs.Record.{Record, hAt, lAt, dataWords, size, listCapacity, portAt}
+use Rattle.model.specs.Rows.{Row, firstRow, users, legalPairs, row1, row2, row3, portsRow, spaceFor, writeRows, readRows, checkRows, assertRows, evaluateRows, variableRows, iteRows}
 use Rattle.model.specs.Step.{State, write, read, assert, check, evaluate, variable, ite, Call, access, nodeCall, refusal, freshRecord, freshRows}
-use Rattle.model.specs.Table.{Fact, InRange, Names, AllName, Listed, NoneNeither, NoneUnknown, Space, writeFacts, readFacts, checkFacts, assertFacts, evaluateFacts, variableFacts, iteFacts, facts, freshFacts, AllHold, FirstFails, Slice, MemoryFacts, WriteFacts, ReadFacts, CheckFacts, AssertFacts, NodeFacts}
+use Rattle.model.specs.Table.{Fact, InRange, Names, AllName, Listed, AllHoldNodes, NoneNeither, NoneUnknown, Space, writeFacts, readFacts, checkFacts, assertFacts, evaluateFacts, variableFacts, iteFacts, facts, freshFacts, AllHold, FirstFails, Slice, MemoryFacts, WriteFacts, ReadFacts, CheckFacts, AssertFacts, NodeFacts}
 
 -- no row has the number 0
 abbrev pub numbered : List Row → Bool
@@ -244,8 +244,14 @@ module _ (r : Record) (w : List ℕ) where
     ),
   )
 
-  read-agree : (l e a out : List ℕ) → Agree (readRows r w l e a out) (readFacts r w l e a out)
-  read-agree l e a out = (
+  pub ports-tell : (ps : List ℕ) → Tells (portsRow r w ps) (AllHoldNodes r w ps)
+  unfolding portsRow
+  ports-tell ps =
+      each (λ p. every (λ i. isUser w (r .count) (getD ps (portAt p + i) 0)) 0 (dataWords r)) (λ p. (i : ℕ) → i < 2 * r .w → Names r w (getD ps (p * 32 + i) 0)) 4
+      (λ p l. each (λ i. isUser w (r .count) (getD ps (portAt p + i) 0)) (λ i. Names r w (getD ps (p * 32 + i) 0)) (2 * r .w) (λ i k. names (getD ps (p * 32 + i) 0)))
+
+  read-agree : (l ps : List ℕ) (p : ℕ) (e a out : List ℕ) → Agree (readRows r w l ps p e a out) (readFacts r w l ps p e a out)
+  read-agree l ps p e a out = (
     refl,
     row1-tells,
     λ R. (
@@ -253,14 +259,18 @@ module _ (r : Record) (w : List ℕ) where
       row2-tells,
       λ S. (
         refl,
-        row3-tells l,
+        two (row3-tells l) (ports-tell ps),
         λ T. (
           refl,
           three (same (length e) 2) (same (length a) (2 * r .n)) (same (length out) (2 * r .w)),
           λ L. (
             refl,
-            two (users-tell e 2 (L .0)) (users-tell a (2 * r .n) (L .1)),
-            λ N. (refl, two (pairs-tell S e 1 (N .0)) (pairs-tell S a (r .n) (N .1)), λ Q. tt),
+            most p 3,
+            λ P. (
+              refl,
+              two (users-tell e 2 (L .0)) (users-tell a (2 * r .n) (L .1)),
+              λ N. (refl, two (pairs-tell S e 1 (N .0)) (pairs-tell S a (r .n) (N .1)), λ Q. tt),
+            ),
           ),
         ),
       ),
@@ -329,7 +339,7 @@ module _ (r : Record) (w : List ℕ) where
 -- the refusal of a call's rows is what its facts say
 pub call-told : (c : Call) (s : State) → Told (refusal c s) (facts c s)
 call-told (access (write c a d)) s = told (writeRows (s .rec) (s .words) (s .list) c a d) _ refl (write-agree (s .rec) (s .words) (s .list) c a d)
-call-told (access (read e a out)) s = told (readRows (s .rec) (s .words) (s .list) e a out) _ refl (read-agree (s .rec) (s .words) (s .list) e a out)
+call-told (access (read p e a out)) s = told (readRows (s .rec) (s .words) (s .list) (s .ports) p e a out) _ refl (read-agree (s .rec) (s .words) (s .list) (s .ports) p e a out)
 call-told (access (assert b a d)) s = told (assertRows (s .rec) (s .words) (s .list) b a d) _ refl (assert-agree (s .rec) (s .words) (s .list) b a d)
 call-told (access (check b a d)) s = told (checkRows (s .rec) (s .words) (s .list) b a d) _ refl (check-agree (s .rec) (s .words) (s .list) b a d)
 call-told (nodeCall (evaluate f a)) s = told (evaluateRows (s .rec) (s .words) f) _ refl (evaluate-agree (s .rec) (s .words) f)
@@ -354,16 +364,19 @@ module _ (s : State) where
         space = rest .0;
       }
 
-  pub read-facts : (e a out : List ℕ) → refusal (access (read e a out)) s ≡ 0 → ReadFacts s e a out
-  read-facts e a out z =
-      let (one, rest) = call-told (access (read e a out)) s .none z in
+  pub read-facts : (p : ℕ) (e a out : List ℕ) → refusal (access (read p e a out)) s ≡ 0 → ReadFacts s p e a out
+  read-facts p e a out z =
+      let (one, rest) = call-told (access (read p e a out)) s .none z in
       let (two, rest) = rest in
       let (three, rest) = rest in
       let (four, rest) = rest in
+      let (fourteen, rest) = rest in
       let (five, rest) = rest in
       let (six, rest) = rest in
       record {
-        memory = record { range = one; standard = two; listed = three };
+        memory = record { range = one; standard = two; listed = three .0 };
+        ports = three .1;
+        port = fourteen;
         enable = record { long = four .0; names = five .0; legal = six .0 };
         address = record { long = four .1; names = five .1; legal = six .1 };
         answer-long = four .2;
@@ -423,7 +436,7 @@ module _ (s : State) where
 -- every call that no row refuses is lent a standard store
 pub call-standard : (c : Call) (s : State) → refusal c s ≡ 0 → Standard (s .words) (s .rec .count)
 call-standard (access (write c a d)) s e = write-facts s c a d e .memory .standard
-call-standard (access (read c a out)) s e = read-facts s c a out e .memory .standard
+call-standard (access (read p c a out)) s e = read-facts s p c a out e .memory .standard
 call-standard (access (assert b a d)) s e = assert-facts s b a d e .compared .memory .standard
 call-standard (access (check b a d)) s e = check-facts s b a d e .memory .standard
 call-standard (nodeCall (evaluate f a)) s e = evaluate-facts s f a e .standard

@@ -5,7 +5,7 @@ use mathlib.Core.List.{List, [], _∷_}
 use Prim.Native.Nat.{ℕ, zero, suc, _+_, _*_, _<_, _≤_}
 use native.Mathlib.Omega.{arith}
 use lib.Dec.{eqb, leb}
-use lib.ListN.{length, getD}
+use lib.ListN.{length, getD, length-replicate, getD-replicate}
 use borrow.Author.Tests.{leb-true, not-true}
 use Rattle.nodes.proofs.BoolLaws.{split, and-both}
 use Rattle.conditions.specs.Stores.{Standard, withTerminals, Agree, Extends, clearOf}
@@ -15,18 +15,18 @@ use Rattle.conditions.specs.Value.{value}
 use Rattle.conditions.specs.User.{isUser}
 use Rattle.conditions.specs.Meaning.{Meaning, Builds}
 use Rattle.conditions.proofs.Promises.{from-1, extends-refl, extends-trans, standard-is, is-standard, terminals-standard, clear-standard, clear-below, ite-builds, variable-builds, is-user}
-use Rattle.model.specs.Record.{listCapacity}
+use Rattle.model.specs.Record.{listCapacity, heldWord, freshPorts}
 use Rattle.model.specs.Access.{Write, Read, Check}
-use Rattle.model.specs.Rows.{Row, firstRow, users, row1, row8, writeRows, readRows, assertRows, checkRows, evaluateRows, variableRows, iteRows}
-use Rattle.model.specs.Step.{State, withWords, write, read, assert, check, evaluate, variable, ite, Call, access, nodeCall, Given, place, filled, entered, kept, accepted, node, Answer, refused, done, isRefused, Filling, fills, fillsNone, filling, Result, refusal, turnedDown, Finish, full, short, gives, closed, unlessFull, begin, grown, withEntry, withAssertCondition, assertFirst, enter, finishAccess, finishNode, finish, turnedDownBy, step, run, fresh, freshRows, freshUnless, freshRecord}
+use Rattle.model.specs.Rows.{Row, firstRow, users, row1, row8, writeRows, readRows, assertRows, checkRows, evaluateRows, variableRows, iteRows, portsRow}
+use Rattle.model.specs.Step.{State, withWords, write, read, assert, check, evaluate, variable, ite, Call, access, nodeCall, Given, place, filled, entered, kept, accepted, node, Answer, refused, done, isRefused, Filling, fills, fillsNone, filling, Result, refusal, turnedDown, Finish, full, short, gives, closed, unlessFull, begin, grown, withEntry, withAssertCondition, assertFirst, enter, finishAccess, finishNode, finish, turnedDownBy, step, run, fresh, freshRows, freshUnless, freshRecord, withHeld}
 use Rattle.model.specs.Claims.{pairs}
-use Rattle.model.specs.Frames.{clears, wordsAfter, RefusalLeaves, RefusalNumber, Extended, SuccessLeaves, Valid, StaysValid, NoRow123, FreshValid, FreshNoRow123, writeOrAssert, acceptedWrites, CountAtMost}
+use Rattle.model.specs.Frames.{clears, wordsAfter, RefusalLeaves, RefusalNumber, Extended, SuccessLeaves, Valid, StaysValid, NoRow123, FreshValid, FreshNoRow123, writeOrAssert, acceptedWrites, CountAtMost, numbers, portsAfter, PortsLeft, PortsValid, PortsStayValid, freshState}
 use Rattle.model.proofs.MeansLaws.{Means, user-means}
 use Rattle.model.proofs.AccessLaws.{write-means}
 use Rattle.model.proofs.FactLaws.{row1-tells, names, users-tell, space-room, write-facts, read-facts, check-facts, assert-facts, variable-facts, ite-facts, fresh-told}
 use Rattle.model.proofs.RowLaws.{length-pairs, names-halves}
 use Rattle.model.proofs.ProgramLaws.{read-program, check-program, assert-program}
-use Rattle.model.proofs.ValidLaws.{User, user-stays, user-grows, withConditions, users-stay, conditions-valid, conditions-extended, entry-extended, no-entries, entry-valid}
+use Rattle.model.proofs.ValidLaws.{User, user-stays, user-grows, withConditions, users-stay, conditions-valid, conditions-extended, entry-extended, no-entries, entry-valid, ports-users, users-ports, latched-valid}
 
 -- p holds of the number of each row that refuses
 abbrev among : (ℕ → Bool) → List Row → Bool
@@ -41,13 +41,13 @@ row-number p (t ∷ ts) q k e = let z = and-both (p (t .0) || t .1) (among p ts)
     go true n e h f = f e
     go false n e h f = ap p (sym e) ∙ sym (or-false (p n)) ∙ h
 
--- a row's number is at most 9, and its refusal does not clear
+-- a row's number is one of the table's, and its refusal does not clear
 abbrev pub plain : Call → ℕ → Bool
-plain c k = leb k 9 && not (clears c k)
+plain c k = numbers k && not (clears c k)
 
 pub rows-plain : (c : Call) (s : State) (k : ℕ) → refusal c s ≡ suc k → plain c (suc k) ≡ true
 rows-plain (access (write c a d)) s = row-number (plain (access (write c a d))) (writeRows (s .rec) (s .words) (s .list) c a d) refl
-rows-plain (access (read e a out)) s = row-number (plain (access (read e a out))) (readRows (s .rec) (s .words) (s .list) e a out) refl
+rows-plain (access (read p e a out)) s = row-number (plain (access (read p e a out))) (readRows (s .rec) (s .words) (s .list) (s .ports) p e a out) refl
 rows-plain (access (assert b a d)) s = row-number (plain (access (assert b a d))) (assertRows (s .rec) (s .words) (s .list) b a d) refl
 rows-plain (access (check b a d)) s = row-number (plain (access (check b a d))) (checkRows (s .rec) (s .words) (s .list) b a d) refl
 rows-plain (nodeCall (evaluate f φ)) s = row-number (plain (nodeCall (evaluate f φ))) (evaluateRows (s .rec) (s .words) f) refl
@@ -55,14 +55,14 @@ rows-plain (nodeCall (variable v)) s = row-number (plain (nodeCall (variable v))
 rows-plain (nodeCall (ite f g h)) s = row-number (plain (nodeCall (ite f g h))) (iteRows (s .rec) (s .words) f g h) refl
 
 -- and in a valid state it is 4 or more
-rows-late : (c : Call) (s : State) → Valid s → (k : ℕ) → refusal c s ≡ suc k → leb 4 (suc k) ≡ true
-rows-late (access (write c a d)) s H = row-number (leb 4) (writeRows (s .rec) (s .words) (s .list) c a d) (rw (H .one, H .two, H .three))
-rows-late (access (read e a out)) s H = row-number (leb 4) (readRows (s .rec) (s .words) (s .list) e a out) (rw (H .one, H .two, H .three))
-rows-late (access (assert b a d)) s H = row-number (leb 4) (assertRows (s .rec) (s .words) (s .list) b a d) (rw (H .one, H .two, H .three))
-rows-late (access (check b a d)) s H = row-number (leb 4) (checkRows (s .rec) (s .words) (s .list) b a d) (rw (H .one, H .two, H .three))
-rows-late (nodeCall (evaluate f φ)) s H = row-number (leb 4) (evaluateRows (s .rec) (s .words) f) (rw (H .one, H .two))
-rows-late (nodeCall (variable v)) s H = row-number (leb 4) (variableRows (s .rec) (s .words) v) (rw (H .one, H .two))
-rows-late (nodeCall (ite f g h)) s H = row-number (leb 4) (iteRows (s .rec) (s .words) f g h) (rw (H .one, H .two))
+rows-late : (c : Call) (s : State) → Valid s → PortsValid s → (k : ℕ) → refusal c s ≡ suc k → leb 4 (suc k) ≡ true
+rows-late (access (write c a d)) s H P = row-number (leb 4) (writeRows (s .rec) (s .words) (s .list) c a d) (rw (H .one, H .two, H .three))
+rows-late (access (read p e a out)) s H P = row-number (leb 4) (readRows (s .rec) (s .words) (s .list) (s .ports) p e a out) (rw (H .one, H .two, H .three, P .three))
+rows-late (access (assert b a d)) s H P = row-number (leb 4) (assertRows (s .rec) (s .words) (s .list) b a d) (rw (H .one, H .two, H .three))
+rows-late (access (check b a d)) s H P = row-number (leb 4) (checkRows (s .rec) (s .words) (s .list) b a d) (rw (H .one, H .two, H .three))
+rows-late (nodeCall (evaluate f φ)) s H P = row-number (leb 4) (evaluateRows (s .rec) (s .words) f) (rw (H .one, H .two))
+rows-late (nodeCall (variable v)) s H P = row-number (leb 4) (variableRows (s .rec) (s .words) v) (rw (H .one, H .two))
+rows-late (nodeCall (ite f g h)) s H P = row-number (leb 4) (iteRows (s .rec) (s .words) f g h) (rw (H .one, H .two))
 
 -- what a refusal leaves
 abbrev left : Call → State → ℕ → State
@@ -70,15 +70,16 @@ left c s k = withWords s (wordsAfter (clears c k) s)
 
 record Refuses (c : Call) (s t : State) (k : ℕ) : Type 0 where
   leaves : t ≡ left c s k
-  least : 1 ≤ k
-  most : k ≤ 9
-  late : Valid s → 4 ≤ k
+  number : numbers k ≡ true
+  late : Valid s → PortsValid s → 4 ≤ k
 
 -- what holds of a call's answer and of the state that it leaves
 record Leaves (c : Call) (s : State) (x : Result) : Type 0 where
   refuses : (k : ℕ) → x .answer ≡ refused k → Refuses c s (x .after) k
   extended : isRefused (x .answer) ≡ false → Extended s (x .after)
   valid : Valid s → Valid (x .after)
+  ports : x .after .ports ≡ portsAfter c (x .answer) (s .ports)
+  ports-valid : Valid s → PortsValid s → PortsValid (x .after)
   entries : x .after .rec .entries ≤ s .rec .entries + acceptedWrites (x .answer)
 
 -- any assignment would do: a node that means something is below the count and on no index variable
@@ -88,6 +89,18 @@ abbrev σ : ℕ → Bool
 means-user : {w : List ℕ} {s : Store} {n : ℕ} {μ : Meaning} → Means σ 8 μ w s n → isUser w (s .count) n ≡ true
 means-user {w} {s} {n} N = is-user w (s .count) n (N .below) (N .from)
 
+-- a refused call leaves the ports
+refused-ports : (c : Call) (k : ℕ) (ps : List ℕ) → ps ≡ portsAfter c (refused k) ps
+refused-ports (access (write c a d)) k ps = refl
+refused-ports (access (read p e a out)) k ps = refl
+refused-ports (access (assert b a d)) k ps = refl
+refused-ports (access (check b a d)) k ps = refl
+refused-ports (nodeCall c) k ps = refl
+
+-- the ports in a store in which every node that 5 accepted is still accepted
+ports-stay : (s : State) (w : List ℕ) (c v u : ℕ) → ((n : ℕ) → User s n → isUser w c n ≡ true) → PortsValid s → PortsValid (withConditions s w c v u)
+ports-stay s w c v u stays P = users-ports (withConditions s w c v u) (P .long) (λ p l i m. stays _ (ports-users s P p l i m))
+
 module _ (c : Call) (s : State) where
   left-valid : (b : Bool) → Valid s → Valid (withWords s (wordsAfter b s))
   left-valid true H =
@@ -96,12 +109,20 @@ module _ (c : Call) (s : State) where
       conditions-valid s (clearOf (s .words) (s .rec .count)) (s .rec .count) (s .rec .asserted) (s .rec .checked) stays (clear-standard (standard-is (s .words) (s .rec .count) (H .two))) (stays (s .rec .asserted)) (stays (s .rec .checked)) H
   left-valid false H = H
 
-  refused-leaves : (k : ℕ) → 1 ≤ k → k ≤ 9 → (Valid s → 4 ≤ k) → Leaves c s (record { answer = refused k; after = left c s k })
-  refused-leaves k l m f =
+  left-ports : (b : Bool) → PortsValid s → PortsValid (withWords s (wordsAfter b s))
+  left-ports true P =
+      let E : Agree (s .words) (clearOf (s .words) (s .rec .count)) (s .rec .count) = record { at = clear-below (s .words) (s .rec .count) } in
+      ports-stay s (clearOf (s .words) (s .rec .count)) (s .rec .count) (s .rec .asserted) (s .rec .checked) (user-stays (s .rec .count) E (omega arith)) P
+  left-ports false P = P
+
+  refused-leaves : (k : ℕ) → numbers k ≡ true → (Valid s → PortsValid s → 4 ≤ k) → Leaves c s (record { answer = refused k; after = left c s k })
+  refused-leaves k m f =
       record {
-        refuses = λ j e. let z : k ≡ j = cc in rw (← z) (record { leaves = refl; least = l; most = m; late = f });
+        refuses = λ j e. let z : k ≡ j = cc in rw (← z) (record { leaves = refl; number = m; late = f });
         extended = λ e. absurd (true≢false e);
         valid = left-valid (clears c k);
+        ports = refused-ports c k (s .ports);
+        ports-valid = λ H P. left-ports (clears c k) P;
         entries = omega arith;
       }
 
@@ -109,25 +130,25 @@ module _ (c : Call) (s : State) where
   turned-leaves k e =
       let p = and-both _ _ (rows-plain c s k e) in
       let z : clears c (suc k) ≡ false = not-true _ (p .1) in
-      rw z at (refused-leaves (suc k) (omega arith) (leb-true _ _ (p .0)) (λ H. leb-true _ _ (rows-late c s H k e)))
+      rw z at (refused-leaves (suc k) (p .0) (λ H P. leb-true _ _ (rows-late c s H P k e)))
 
   nine-leaves : {A : Type 0} (x : Outcome A) (k : A → List ℕ → ℕ → Finish) → (x .store .full ≡ false → Leaves c s (closed s (k (x .answer) (x .words) (x .store .count)))) → Leaves c s (closed s (unlessFull x k))
   unfolding unlessFull closed
-  nine-leaves x k f = split (x .store .full) (λ e. rw e (refused-leaves 9 (omega arith) (omega arith) (λ H. omega arith))) (λ e. rw e (f e))
+  nine-leaves x k f = split (x .store .full) (λ e. rw e (refused-leaves 9 refl (λ H P. omega arith))) (λ e. rw e (f e))
 
-  done-leaves : (g : Given) (t : State) → Extended s t → (Valid s → Valid t) → t .rec .entries ≤ s .rec .entries + writeOrAssert g → Leaves c s (closed s (gives g t))
+  done-leaves : (g : Given) (t : State) → Extended s t → (Valid s → Valid t) → t .ports ≡ portsAfter c (done g) (s .ports) → (Valid s → PortsValid s → PortsValid t) → t .rec .entries ≤ s .rec .entries + writeOrAssert g → Leaves c s (closed s (gives g t))
   unfolding closed
-  done-leaves g t E H l = record { refuses = λ k e. absurd (true≢false (sym (ap isRefused e))); extended = λ e. E; valid = H; entries = l }
+  done-leaves g t E H p P l = record { refuses = λ k e. absurd (true≢false (sym (ap isRefused e))); extended = λ e. E; valid = H; ports = p; ports-valid = P; entries = l }
 
-  module _ (g : Given) (w : List ℕ) (n : ℕ) (E : Extends (s .words) (s .rec .count) w n) (S : Standard w n) where
+  module _ (g : Given) (still : s .ports ≡ portsAfter c (done g) (s .ports)) (w : List ℕ) (n : ℕ) (E : Extends (s .words) (s .rec .count) w n) (S : Standard w n) where
     conditions-leave : (v u : ℕ) → (User s (s .rec .asserted) → isUser w n v ≡ true) → (User s (s .rec .checked) → isUser w n u ≡ true) → Leaves c s (closed s (gives g (withConditions s w n v u)))
-    conditions-leave v u A C = done-leaves g (withConditions s w n v u) (conditions-extended s w n v u E) (conditions-valid s w n v u (user-grows E) S A C) (omega arith)
+    conditions-leave v u A C = done-leaves g (withConditions s w n v u) (conditions-extended s w n v u E) (conditions-valid s w n v u (user-grows E) S A C) still (λ H P. ports-stay s w n v u (user-grows E) P) (omega arith)
 
     -- an entry's Write, and one entry more where the store is not full
     entry-leaves : writeOrAssert g ≡ 1 → (v : ℕ) → (User s (s .rec .asserted) → isUser w n v ≡ true) → (h l : ℕ) → isUser w n h ≡ true → isUser w n l ≡ true → (a d : List ℕ) → length a ≡ 2 * s .rec .n → length d ≡ 2 * s .rec .w
         → users (s .rec) (s .words) a ≡ true → users (s .rec) (s .words) d ≡ true → s .rec .entries < listCapacity (s .rec) (s .list)
         → Leaves c s (closed s (unlessFull (Write (s .rec .n) h l a w (record { count = n; full = false })) (λ m w n. gives g (withEntry (withAssertCondition (grown s w n) v) m a d))))
-    unfolding listCapacity
+    unfolding listCapacity portsRow
     entry-leaves one v A h l uh ul a d na wd ua ud room =
         let r = withAssertCondition (grown s w n) v .rec in
         let X = write-means (s .rec .n) h l a (record { h = value w σ h; l = value w σ l }) (pairs σ w a (s .rec .n)) [] (length-pairs σ w a 0 (s .rec .n)) w (begin r) S (user-means {s = begin r} S uh) (user-means {s = begin r} S ul)
@@ -139,18 +160,19 @@ module _ (c : Call) (s : State) where
         nine-leaves x _
         (λ e. done-leaves _ _ (entry-extended s (x .words) m v u F (x .answer) a d na wd room)
         (λ H. entry-valid (withAssertCondition (grown s (x .words) m) v) (x .answer) a d na wd room (means-user (X .post .hard)) (means-user (X .post .soft)) (users-stay s (x .words) m v u (user-grows F) a ua) (users-stay s (x .words) m v u (user-grows F) d ud)
-        (conditions-valid s (x .words) m v u (user-grows F) (X .standard) (λ z. user-grows (X .extends) v (A z)) (user-grows F u) H)) (omega arith))
+        (conditions-valid s (x .words) m v u (user-grows F) (X .standard) (λ z. user-grows (X .extends) v (A z)) (user-grows F u) H))
+        still (λ H P. let Q = ports-stay s (x .words) m v u (user-grows F) P in record { three = Q .three; long = Q .long }) (omega arith))
 
   -- a program that leaves nothing but its nodes and its answer
-  grown-leaves : {A : Type 0} {P : List ℕ → Store → A → Type 0} {x : Outcome A} → Builds (s .words) (begin (s .rec)) P x → (k : A → Given) → Leaves c s (closed s (unlessFull x (λ a w n. gives (k a) (grown s w n))))
-  grown-leaves {x = x} X k =
+  grown-leaves : {A : Type 0} {P : List ℕ → Store → A → Type 0} {x : Outcome A} → Builds (s .words) (begin (s .rec)) P x → (k : A → Given) → ((a : A) → s .ports ≡ portsAfter c (done (k a)) (s .ports)) → Leaves c s (closed s (unlessFull x (λ a w n. gives (k a) (grown s w n))))
+  grown-leaves {x = x} X k still =
       nine-leaves x (λ a w n. gives (k a) (grown s w n))
-      (λ e. conditions-leave (k (x .answer)) (x .words) (x .store .count) (X .extends) (X .standard) (s .rec .asserted) (s .rec .checked) (user-grows (X .extends) (s .rec .asserted)) (user-grows (X .extends) (s .rec .checked)))
+      (λ e. conditions-leave (k (x .answer)) (still (x .answer)) (x .words) (x .store .count) (X .extends) (X .standard) (s .rec .asserted) (s .rec .checked) (user-grows (X .extends) (s .rec .asserted)) (user-grows (X .extends) (s .rec .checked)))
 
 -- 8 in an assert
 short-leaves : (b : ℕ) (a d : List ℕ) (s : State) → Leaves (access (assert b a d)) s (closed s short)
 unfolding closed
-short-leaves b a d s = refused-leaves (access (assert b a d)) s 8 (omega arith) (omega arith) (λ H. omega arith)
+short-leaves b a d s = refused-leaves (access (assert b a d)) s 8 refl (λ H P. omega arith)
 
 -- a call that no row refuses
 finish-leaves : (c : Call) (s : State) → refusal c s ≡ 0 → Leaves c s (closed s (finish c s))
@@ -158,10 +180,23 @@ unfolding finishAccess finishNode enter
 finish-leaves (access (write c a d)) s e =
     let F = write-facts s c a d e in
     let r = s .rec in
-    entry-leaves (access (write c a d)) s _ (s .words) (r .count) (extends-refl (s .words) (r .count)) (F .memory .standard) refl (r .asserted) (λ u. u)
+    entry-leaves (access (write c a d)) s _ refl (s .words) (r .count) (extends-refl (s .words) (r .count)) (F .memory .standard) refl (r .asserted) (λ u. u)
     (getD c 0 0) (getD c 1 0) (names r (s .words) _ .so (F .enable .names 0 (omega arith))) (names r (s .words) _ .so (F .enable .names 1 (omega arith))) a d (F .address .long) (F .word .long)
     (users-tell r (s .words) a (2 * r .n) (F .address .long) .so (F .address .names)) (users-tell r (s .words) d (2 * r .w) (F .word .long) .so (F .word .names)) (space-room r (s .words) (s .list) (F .space))
-finish-leaves (access (read en a out)) s e = grown-leaves (access (read en a out)) s (read-program σ s en a out (read-facts s en a out e)) filled
+finish-leaves (access (read p en a out)) s e =
+    let F = read-facts s p en a out e in
+    let X = read-program σ s p en a out F in
+    let r = s .rec in
+    let c = access (read p en a out) in
+    let x = Read r (s .list) (heldWord r (s .ports) p) (getD en 0 0) (getD en 1 0) a (s .words) (begin r) in
+    let G = conditions-extended s (x .words) (x .store .count) (r .asserted) (r .checked) (X .extends) in
+    nine-leaves c s x _
+    (λ f. done-leaves c s (filled (x .answer)) (withHeld (grown s (x .words) (x .store .count)) p (x .answer)) (record { n = G .n; w = G .w; nodes = G .nodes; more = G .more; len = G .len; old = G .old; past = G .past })
+    (λ H.
+    let C = conditions-valid s (x .words) (x .store .count) (r .asserted) (r .checked) (user-grows (X .extends)) (X .standard) (user-grows (X .extends) (r .asserted)) (user-grows (X .extends) (r .checked)) H in
+    record { one = C .one; two = C .two; three = C .three }) refl
+    (λ H P. latched-valid (grown s (x .words) (x .store .count)) p (x .answer) (F .memory .range .w-most) (F .port) (X .post .size) (λ i m. means-user (X .post .halves .half i m))
+    (ports-stay s (x .words) (x .store .count) (r .asserted) (r .checked) (user-grows (X .extends)) P)) (omega arith))
 finish-leaves (access (assert b a d)) s e =
     let K = assert-facts s b a d e .compared in
     let r = s .rec in
@@ -172,9 +207,9 @@ finish-leaves (access (assert b a d)) s e =
     let c = access (assert b a d) in
     nine-leaves c s x (enter s b a d)
     (λ f. split (eqb (x .answer .keep) 1)
-    (λ t. rw t (conditions-leave c s kept (x .words) n (X .extends) (X .standard) v (r .checked) (λ u. means-user (X .post .condition)) (user-grows (X .extends) (r .checked))))
+    (λ t. rw t (conditions-leave c s kept refl (x .words) n (X .extends) (X .standard) v (r .checked) (λ u. means-user (X .post .condition)) (user-grows (X .extends) (r .checked))))
     (λ t. split (row8 r (s .words) (s .list))
-    (λ room. rw (t, room) (entry-leaves c s entered (x .words) n (X .extends) (X .standard) refl v (λ u. means-user (X .post .condition)) b (x .answer .notB) (user-grows (X .extends) b (names r (s .words) b .so (K .control))) (means-user (X .post .notB))
+    (λ room. rw (t, room) (entry-leaves c s entered refl (x .words) n (X .extends) (X .standard) refl v (λ u. means-user (X .post .condition)) b (x .answer .notB) (user-grows (X .extends) b (names r (s .words) b .so (K .control))) (means-user (X .post .notB))
     a d (K .address .long) (K .word .long) (users-tell r (s .words) a (2 * r .n) (K .address .long) .so (K .address .names)) (users-tell r (s .words) d (2 * r .w) (K .word .long) .so (K .word .names)) (omega (arith, leb-true (r .entries + 1) (listCapacity r (s .list)) room))))
     (λ room. rw (t, room) (short-leaves b a d s))))
 finish-leaves (access (check b a d)) s e =
@@ -182,15 +217,15 @@ finish-leaves (access (check b a d)) s e =
     let r = s .rec in
     let x = Check r (s .list) b a d (s .words) (begin r) in
     nine-leaves (access (check b a d)) s x _
-    (λ f. conditions-leave (access (check b a d)) s accepted (x .words) (x .store .count) (X .extends) (X .standard) (r .asserted) (x .answer) (user-grows (X .extends) (r .asserted)) (λ u. means-user (X .post)))
+    (λ f. conditions-leave (access (check b a d)) s accepted refl (x .words) (x .store .count) (X .extends) (X .standard) (r .asserted) (x .answer) (user-grows (X .extends) (r .asserted)) (λ u. means-user (X .post)))
 finish-leaves (nodeCall (evaluate f φ)) s e =
-    done-leaves (nodeCall (evaluate f φ)) s _ s (conditions-extended s (s .words) (s .rec .count) (s .rec .asserted) (s .rec .checked) (extends-refl (s .words) (s .rec .count))) (λ H. H) (omega arith)
+    done-leaves (nodeCall (evaluate f φ)) s _ s (conditions-extended s (s .words) (s .rec .count) (s .rec .asserted) (s .rec .checked) (extends-refl (s .words) (s .rec .count))) (λ H. H) refl (λ H P. P) (omega arith)
 finish-leaves (nodeCall (variable v)) s e =
     let F = variable-facts s v e in
-    grown-leaves (nodeCall (variable v)) s (variable-builds {s = begin (s .rec)} {v = v} (F .standard) (omega (arith, F .named .1))) node
+    grown-leaves (nodeCall (variable v)) s (variable-builds {s = begin (s .rec)} {v = v} (F .standard) (omega (arith, F .named .1))) node (λ a. refl)
 finish-leaves (nodeCall (ite f g h)) s e =
     let F = ite-facts s f g h e in
-    grown-leaves (nodeCall (ite f g h)) s (ite-builds (F .standard) (F .named .0) (F .named .1) (F .named .2)) node
+    grown-leaves (nodeCall (ite f g h)) s (ite-builds (F .standard) (F .named .0) (F .named .1) (F .named .2)) node (λ a. refl)
 
 step-leaves : (c : Call) (s : State) → Leaves c s (step c s)
 unfolding step
@@ -206,7 +241,15 @@ refusal-leaves c s k e = step-leaves c s .refuses k e .leaves
 
 pub refusal-number : RefusalNumber
 unfolding RefusalNumber
-refusal-number c s k e = let R = step-leaves c s .refuses k e in (R .least, R .most)
+refusal-number c s k e = step-leaves c s .refuses k e .number
+
+pub ports-left : PortsLeft
+unfolding PortsLeft
+ports-left c s = step-leaves c s .ports
+
+pub ports-stay-valid : PortsStayValid
+unfolding PortsStayValid
+ports-stay-valid c s = step-leaves c s .ports-valid
 
 pub success-leaves : SuccessLeaves
 unfolding SuccessLeaves
@@ -218,34 +261,38 @@ stays-valid c s = step-leaves c s .valid
 
 pub no-row-123 : NoRow123
 unfolding NoRow123 run
-no-row-123 [] c s k H e = step-leaves c s .refuses k e .late H
-no-row-123 (d ∷ cs) c s k H e = no-row-123 cs c (step d s .after) k (step-leaves d s .valid H) e
+no-row-123 [] c s k H P e = step-leaves c s .refuses k e .late H P
+no-row-123 (d ∷ cs) c s k H P e = no-row-123 cs c (step d s .after) k (step-leaves d s .valid H) (step-leaves d s .ports-valid H P) e
 
--- what Fresh leaves where rows 1 and 2 accept: no entries, and node 1 for both conditions
-abbrev freshState : ℕ → ℕ → List ℕ → List ℕ → State
-freshState n w ws list = record { rec = freshRecord n w; words = withTerminals ws; list = list }
+-- what Fresh leaves where rows 1 and 2 accept: no entries, node 1 for both conditions, and node 1 in every port word
+abbrev begun : ℕ → ℕ → List ℕ → List ℕ → State
+begun n w ws l = record { rec = freshRecord n w; words = withTerminals ws; list = l; ports = freshPorts }
 
-fresh-state-valid : (n w : ℕ) (ws list : List ℕ) → row1 (freshRecord n w) ws ≡ true → 6 ≤ length ws → Valid (freshState n w ws list)
+begun-valid : (n w : ℕ) (ws l : List ℕ) → row1 (freshRecord n w) ws ≡ true → w ≤ 16 → 6 ≤ length ws → Valid (begun n w ws l) × PortsValid (begun n w ws l)
 unfolding row1
-fresh-state-valid n w ws list one room =
+begun-valid n w ws l one wide room =
     let S = terminals-standard ws room in
-    let u = is-user (withTerminals ws) 2 1 (omega arith) (from-1 8 S (omega arith)) in
-    record { one = one; two = is-standard (withTerminals ws) 2 S; three = no-entries (freshRecord n w) (withTerminals ws) list refl u u }
+    let u = is-user (withTerminals ws) 2 1 (omega arith) (from-1 8 S (omega arith)) in (
+      record { one = one; two = is-standard (withTerminals ws) 2 S; three = no-entries (freshRecord n w) (withTerminals ws) l refl u u },
+      users-ports (begun n w ws l) (length-replicate {A = ℕ} 128 1) (λ p a i b. rw (getD-replicate {A = ℕ} 128 (p * 32 + i) 1 0 (omega (arith, a, b, wide))) u),
+    )
 
 pub fresh-valid : FreshValid
 unfolding FreshValid fresh
-fresh-valid given n w ws list e = go (freshRows n w ws) refl e
+fresh-valid given n w ws ps l e = go (freshRows n w ws) refl e
   where
-    go : (k : ℕ) → freshRows n w ws ≡ k → freshUnless k given (freshRecord n w) ws .answer ≡ 0
-        → Valid (record { rec = freshUnless k given (freshRecord n w) ws .rec; words = freshUnless k given (freshRecord n w) ws .words; list = list })
+    after : ℕ → State
+    after k = let x = freshUnless k given (freshRecord n w) ws ps in record { rec = x .rec; words = x .words; list = l; ports = x .ports }
+
+    go : (k : ℕ) → freshRows n w ws ≡ k → freshUnless k given (freshRecord n w) ws ps .answer ≡ 0 → Valid (after k) × PortsValid (after k)
     go zero q e =
         let (range, rest) = fresh-told n w ws .none q in
-        fresh-state-valid n w ws list (row1-tells (freshRecord n w) ws .so range) (rest .0)
+        begun-valid n w ws l (row1-tells (freshRecord n w) ws .so range) (range .w-most) (rest .0)
     go (suc k) q e = absurd (omega arith)
 
 pub fresh-no-row-123 : FreshNoRow123
 unfolding FreshNoRow123 FreshValid NoRow123
-fresh-no-row-123 given n w ws list e cs c k = no-row-123 cs c (record { rec = fresh given n w ws .rec; words = fresh given n w ws .words; list = list }) k (fresh-valid given n w ws list e)
+fresh-no-row-123 given n w ws ps l e cs c k = let F = fresh-valid given n w ws ps l e in no-row-123 cs c (freshState given n w ws ps l) k (F .0) (F .1)
 
 pub count-at-most : CountAtMost
 unfolding CountAtMost run
@@ -257,31 +304,31 @@ abbrev WordBelow : Filling → ℕ → ℕ → Type 0
 WordBelow (fills r) n c = (length r ≡ n) × ((i : ℕ) → i < length r → getD r i 0 < c)
 WordBelow fillsNone n c = Unit {0}
 
-module _ (e a out : List ℕ) (s : State) where
+module _ (p : ℕ) (e a out : List ℕ) (s : State) where
   abbrev Below : Result → Type 0
   Below x = WordBelow (filling (x .answer)) (2 * s .rec .w) (x .after .rec .count)
 
-  read-acts : refusal (access (read e a out)) s ≡ 0 → Below (closed s (finish (access (read e a out)) s))
+  read-acts : refusal (access (read p e a out)) s ≡ 0 → Below (closed s (finish (access (read p e a out)) s))
   unfolding finishAccess unlessFull closed
   read-acts z =
       let R = s .rec in
       let w = s .words in
-      let X = read-program σ s e a out (read-facts s e a out z) in
-      let x = Read R (s .list) (getD e 0 0) (getD e 1 0) a w (begin R) in
+      let X = read-program σ s p e a out (read-facts s p e a out z) in
+      let x = Read R (s .list) (heldWord R (s .ports) p) (getD e 0 0) (getD e 1 0) a w (begin R) in
       go x (x .store .full) (X .post .size) (λ i h. X .post .halves .half i (omega (arith, X .post .size)) .below)
     where
       go : (x : Outcome (List ℕ)) (f : Bool) → length (x .answer) ≡ 2 * s .rec .w → ((i : ℕ) → i < length (x .answer) → getD (x .answer) i 0 < x .store .count)
-          → Below (closed s (cond f (full (x .store)) (gives (filled (x .answer)) (grown s (x .words) (x .store .count)))))
+          → Below (closed s (cond f (full (x .store)) (gives (filled (x .answer)) (withHeld (grown s (x .words) (x .store .count)) p (x .answer)))))
       go x true p q = tt
       go x false p q = (p, q)
 
-  read-below : Below (step (access (read e a out)) s)
+  read-below : Below (step (access (read p e a out)) s)
   unfolding step
-  read-below = go (refusal (access (read e a out)) s) refl
+  read-below = go (refusal (access (read p e a out)) s) refl
     where
-      go : (k : ℕ) → refusal (access (read e a out)) s ≡ k → Below (turnedDownBy k s (closed s (finish (access (read e a out)) s)))
+      go : (k : ℕ) → refusal (access (read p e a out)) s ≡ k → Below (turnedDownBy k s (closed s (finish (access (read p e a out)) s)))
       go zero z = read-acts z
       go (suc k) z = tt
 
-  pub filled-below : {r : List ℕ} {t : State} → step (access (read e a out)) s ≡ record { answer = done (filled r); after = t } → (length r ≡ 2 * s .rec .w) × ((i : ℕ) → i < length r → getD r i 0 < t .rec .count)
+  pub filled-below : {r : List ℕ} {t : State} → step (access (read p e a out)) s ≡ record { answer = done (filled r); after = t } → (length r ≡ 2 * s .rec .w) × ((i : ℕ) → i < length r → getD r i 0 < t .rec .count)
   filled-below f = subst Below f read-below

@@ -7,7 +7,7 @@ use native.Mathlib.Omega.{arith}
 use lib.ListN.{length, getD, take}
 use lib.Seq.{take-suc}
 use Rattle.model.specs.Pairs.{Pair, X, admit, admits, known, unique, at}
-use Rattle.model.specs.Published.{Entry, union, over, scan, cell, anywhere, look, inside}
+use Rattle.model.specs.Published.{Entry, union, over, scan, cell, anywhere, look, holding, inside}
 use Rattle.model.proofs.MeansLaws.{placed, place, anywhere-same, any-place}
 
 -- half h of a word: h of bit h / 2, or l
@@ -45,9 +45,26 @@ half-over true b h e r = refl
 half-over false true h e r = half-union h e r
 half-over false false h e r = refl
 
-pub half-mask : (b : Bool) (h : ℕ) (r : ℕ → Pair) → cond b (halfOf h r) true ≡ halfOf h (λ i. cond b (r i) X)
-half-mask true h r = refl
-half-mask false h r = sym (half-X h)
+-- S = And(e.h, e.l), then t = Ite(S, r, e.h), then Ite(t, r, p)
+abbrev heldHalf : Pair → Bool → Bool → Bool
+heldHalf e r p = cond (cond (e .h && e .l) r (e .h)) r p
+
+hold-built : (e r p : Pair) → holding e r p ≡ record { h = heldHalf e (r .h) (p .h); l = heldHalf e (r .l) (p .l) }
+hold-built e r p = go (e .h) (e .l) (r .h) (r .l)
+  where
+    go : (eh el rh rl : Bool) → holding (record { h = eh; l = el }) (record { h = rh; l = rl }) p
+        ≡ record { h = heldHalf (record { h = eh; l = el }) rh (p .h); l = heldHalf (record { h = eh; l = el }) rl (p .l) }
+    go false el rh rl = refl
+    go true false rh rl = refl
+    go true true false false = refl
+    go true true false true = refl
+    go true true true false = refl
+    go true true true true = refl
+
+pub half-hold : (e : Pair) (h : ℕ) (r p : ℕ → Pair) → cond (cond (e .h && e .l) (halfOf h r) (e .h)) (halfOf h r) (halfOf h p) ≡ halfOf h (λ i. holding e (r i) (p i))
+half-hold e zero r p = sym (ap (λ (x : Pair). x .h) (hold-built e (r zero) (p zero)))
+half-hold e (suc zero) r p = sym (ap (λ (x : Pair). x .l) (hold-built e (r zero) (p zero)))
+half-hold e (suc (suc h)) r p = half-hold e h (λ i. r (suc i)) (λ i. p (suc i))
 
 -- the scan as it is built: the query's own condition stands in each match
 abbrev pub overIn : Bool → Entry → List Bool → ℕ → Pair → Pair

@@ -3,10 +3,10 @@ use mathlib.Core.Path.{_≡_, refl, sym, ap, _∙_, subst}
 use mathlib.Core.Bool.{Bool, true, false, _&&_, _||_, not, cond}
 use mathlib.Core.List.{List, [], _∷_, _++_}
 use Prim.Native.Nat.{ℕ, zero, suc, _<_}
-use lib.Dec.{T}
+use lib.Dec.{T, eqb}
 use lib.ListN.{length}
 use Rattle.model.specs.Pairs.{Pair, X, admit, admits, unique, at}
-use Rattle.model.specs.Published.{Entry, entry, union, over, cell, look, certain, answer, inside, keeps, control}
+use Rattle.model.specs.Published.{Entry, entry, union, over, cell, look, holding, answer, inside, keeps, control}
 use Rattle.model.specs.Array.{Event, writes, reads, asserts, checks, nothing}
 use Rattle.model.specs.Held.{Held, heldAfter, Accepted}
 use Rattle.model.proofs.PairLaws.{and-left, and-right, same-eq, one-place, look-to, look-from, inside-to, inside-from, scan-snoc}
@@ -75,13 +75,15 @@ same-inside w r s d e = bool-same (inside w r d) (inside w s d)
 -- two memories that tell the same
 pub record SameHeld (w : ℕ) (s t : Held) : Type 0 where
   pub entries : SameCells w (s .entries) (t .entries)
+  pub ports : (p i : ℕ) → i < w → s .ports p i ≡ t .ports p i
   pub condition : s .condition ≡ t .condition
 
 pub same-itself : (w : ℕ) (s : Held) → SameHeld w s s
-same-itself w s = record { entries = record { cells = λ x i h. refl }; condition = refl }
+same-itself w s = record { entries = record { cells = λ x i h. refl }; ports = λ p i h. refl; condition = refl }
 
-pub same-answer : (n w : ℕ) (s t : Held) → SameHeld w s t → (e : Pair) (a : List Pair) (i : ℕ) → i < w → answer n (s .entries) e a i ≡ answer n (t .entries) e a i
-same-answer n w s t S e a i h = ap (λ (r : Pair). cond (certain e) r X) (same-look n w (s .entries) (t .entries) (S .entries) a i h)
+pub same-answer : (n w : ℕ) (s t : Held) → SameHeld w s t → (p : ℕ) (e : Pair) (a : List Pair) (i : ℕ) → i < w → answer n (s .entries) (s .ports p) e a i ≡ answer n (t .entries) (t .ports p) e a i
+same-answer n w s t S p e a i h =
+    ap (λ (r : Pair). holding e r (s .ports p i)) (same-look n w (s .entries) (t .entries) (S .entries) a i h) ∙ ap (λ (q : Pair). holding e (look n (t .entries) a i) q) (S .ports p i h)
 
 same-check : (n w : ℕ) (s t : Held) → SameHeld w s t → (b : Bool) (a d : List Pair) →
     (s .condition && (not b || inside w (look n (s .entries) a) (at d))) ≡ (t .condition && (not b || inside w (look n (t .entries) a) (at d)))
@@ -90,10 +92,14 @@ same-check n w s t S b a d =
     ∙ ap (λ (c : Bool). t .condition && (not b || c)) (same-inside w (look n (s .entries) a) (look n (t .entries) a) (at d) (λ i h. same-look n w (s .entries) (t .entries) (S .entries) a i h))
 
 pub same-after : (n w : ℕ) (s t : Held) → SameHeld w s t → (e : Event) → SameHeld w (heldAfter n w s e) (heldAfter n w t e)
-same-after n w s t S (writes c a d) = record { entries = same-add w (s .entries) (t .entries) (entry c a d) (S .entries); condition = S .condition }
-same-after n w s t S (reads e a) = S
-same-after n w s t S (asserts b a d) = record { entries = same-add w (s .entries) (t .entries) (entry (control b) a d) (S .entries); condition = S .condition }
-same-after n w s t S (checks b a d) = record { entries = S .entries; condition = same-check n w s t S b a d }
+same-after n w s t S (writes c a d) = record { entries = same-add w (s .entries) (t .entries) (entry c a d) (S .entries); ports = S .ports; condition = S .condition }
+same-after n w s t S (reads p e a) = record { entries = S .entries; ports = λ q i h. go q i h (eqb q p); condition = S .condition }
+  where
+    go : (q i : ℕ) → i < w → (k : Bool) → cond k (answer n (s .entries) (s .ports p) e a) (s .ports q) i ≡ cond k (answer n (t .entries) (t .ports p) e a) (t .ports q) i
+    go q i h true = same-answer n w s t S p e a i h
+    go q i h false = S .ports q i h
+same-after n w s t S (asserts b a d) = record { entries = same-add w (s .entries) (t .entries) (entry (control b) a d) (S .entries); ports = S .ports; condition = S .condition }
+same-after n w s t S (checks b a d) = record { entries = S .entries; ports = S .ports; condition = same-check n w s t S b a d }
 same-after n w s t S nothing = S
 
 -- where the left leaves out an assert that it keeps
@@ -102,4 +108,4 @@ pub same-kept : (n w : ℕ) (s t : Held) → SameHeld w s t → (b : Bool) (a d 
 same-kept n w s t S b a d q k =
     let e = entry (control b) a d in
     let K = kept-same n w (s .entries) b a d (q .0 .1) (q .2) k in
-    record { entries = record { cells = λ x i h. sym (K .cells x i h) ∙ same-add w (s .entries) (t .entries) e (S .entries) .cells x i h }; condition = S .condition }
+    record { entries = record { cells = λ x i h. sym (K .cells x i h) ∙ same-add w (s .entries) (t .entries) e (S .entries) .cells x i h }; ports = S .ports; condition = S .condition }

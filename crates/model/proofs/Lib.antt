@@ -6,6 +6,7 @@ pub mod KeptLaws
 pub mod HalfLaws
 pub mod AccessLaws
 pub mod ListLaws
+pub mod PortLaws
 pub mod FactLaws
 pub mod RowLaws
 pub mod StepLaws
@@ -18,6 +19,7 @@ pub mod Demand3
 pub mod ChainLaws
 pub mod RulingLaws
 pub mod StayLaws
+pub mod UnseenLaws
 pub mod NineLaws
 pub mod TableLaws
 pub mod OrderLaws

@@ -29,7 +29,7 @@ pub entry-words : (r : Record) (j k : ℕ) → j < r .entries → k < size r →
 entry-words r j k h i = omega (arith, mul-le-mul-right (size r) h, suc-mul j (size r))
 
 -- reading a part, and an entry
-part-word : (l : List ℕ) (a e k : ℕ) → k < e - a → getD (part l a e) k 0 ≡ getD l (a + k) 0
+pub part-word : (l : List ℕ) (a e k : ℕ) → k < e - a → getD (part l a e) k 0 ≡ getD l (a + k) 0
 part-word l a e k h = getD-take (e - a) (drop a l) k 0 h ∙ getD-drop a l k 0
 
 module _ (r : Record) (l : List ℕ) (j : ℕ) where

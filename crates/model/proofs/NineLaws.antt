@@ -14,10 +14,10 @@ use Rattle.conditions.specs.Assignment.{bitAt}
 use Rattle.conditions.specs.Build.{Outcome, Build}
 use Rattle.conditions.specs.Meaning.{Within, longer, Fills}
 use Rattle.conditions.proofs.Promises.{standard-within, pure-fills, next-fills, each-fills, variable-fills, ite-fills, any-fills, value-longer}
-use Rattle.model.specs.Record.{Record, hAt, lAt, entryAt, addressOf, dataOf}
-use Rattle.model.specs.Access.{uniqueBit, Unique, Certain, Write, narrowBit, Narrow, halfStep, EachHalf, mergeHalf, entryStep, settleHalf, Look, Read, insideHalf, Inside, Check, AssertBuilt, Assert}
+use Rattle.model.specs.Record.{Record, hAt, lAt, entryAt, addressOf, dataOf, heldWord}
+use Rattle.model.specs.Access.{uniqueBit, Unique, Certain, Write, narrowBit, Narrow, halfStep, EachHalf, mergeHalf, entryStep, settleHalf, Look, Read, insideHalf, Inside, Check, AssertBuilt, Assert, holdHalf}
 use Rattle.model.specs.Rows.{row8}
-use Rattle.model.specs.Step.{State, write, read, assert, check, evaluate, variable, ite, Call, access, nodeCall, Given, valued, kept, entered, Answer, isRefused, refused, refusal, Finish, full, short, gives, closed, unlessFull, begin, grown, withEntry, withCheckCondition, assertFirst, enter, finishAccess, finishNode, finish, turnedDownBy, step}
+use Rattle.model.specs.Step.{State, write, read, assert, check, evaluate, variable, ite, Call, access, nodeCall, Given, valued, kept, entered, Answer, isRefused, refused, refusal, Finish, full, short, gives, closed, unlessFull, begin, grown, withEntry, withCheckCondition, assertFirst, enter, finishAccess, finishNode, finish, turnedDownBy, step, withHeld}
 use Rattle.model.specs.Frames.{lateRow, NineAtCapacity}
 use Rattle.model.specs.Table.{AllHold, facts, withMore, InMore, NineExactly}
 use Rattle.model.proofs.FactLaws.{call-standard, call-told}
@@ -63,9 +63,11 @@ look-fills r l a =
     (λ inside. next-fills (each-fills _ (λ j. entry-fills r inside (entryAt r l j)) 0 (r .entries) _)
     (λ word. halves-fills _ (λ k x. next-fills (ite-fills inside x 0) (λ y. any-fills y)) (2 * r .w) word))
 
-read-fills : (r : Record) (l : List ℕ) (h e : ℕ) (a : List ℕ) → Fills (Read r l h e a)
-unfolding Read
-read-fills r l h e a = next-fills (look-fills r l a) (λ word. next-fills (certain-fills h e) (λ c. halves-fills _ (λ k x. ite-fills c x 1) (2 * r .w) word))
+read-fills : (r : Record) (l held : List ℕ) (h e : ℕ) (a : List ℕ) → Fills (Read r l held h e a)
+unfolding Read holdHalf
+read-fills r l held h e a =
+    next-fills (look-fills r l a)
+    (λ word. next-fills (ite-fills h e 0) (λ c. halves-fills _ (λ k x. next-fills (ite-fills c x h) (λ t. ite-fills t x (getD held k 0))) (2 * r .w) word))
 
 inside-fills : (k : ℕ) (x y : List ℕ) → Fills (Inside k x y)
 unfolding Inside insideHalf
@@ -115,7 +117,7 @@ module _ (s : State) (S : Standard (s .words) (s .rec .count)) where
   finish-met : (c : Call) → Met (finish c s)
   unfolding finishAccess finishNode enter
   finish-met (access (write c a d)) = alone-met (write-fills (s .rec .n) (getD c 0 0) (getD c 1 0) a) _ _ (λ a w c. refl)
-  finish-met (access (read e a out)) = alone-met (read-fills (s .rec) (s .list) (getD e 0 0) (getD e 1 0) a) _ _ (λ a w c. refl)
+  finish-met (access (read p e a out)) = alone-met (read-fills (s .rec) (s .list) (heldWord (s .rec) (s .ports) p) (getD e 0 0) (getD e 1 0) a) _ _ (λ a w c. refl)
   finish-met (access (check b a d)) = alone-met (check-fills (s .rec) (s .list) b a d) _ _ (λ a w c. refl)
   finish-met (access (assert b a d)) =
       let x = assertFirst b a d s in
@@ -234,7 +236,7 @@ module _ (k : ℕ) (s : State) where
   finish-beside : (c : Call) → Beside (finish c s) (finish c more)
   unfolding finishAccess finishNode
   finish-beside (access (write c a d)) = alone-beside (write-fills (s .rec .n) (getD c 0 0) (getD c 1 0) a) _ (λ s m w c. withEntry (grown s w c) m a d) (λ a w c. refl) (λ a w c. refl)
-  finish-beside (access (read e a out)) = alone-beside (read-fills (s .rec) (s .list) (getD e 0 0) (getD e 1 0) a) _ (λ s r w c. grown s w c) (λ a w c. refl) (λ a w c. refl)
+  finish-beside (access (read p e a out)) = alone-beside (read-fills (s .rec) (s .list) (heldWord (s .rec) (s .ports) p) (getD e 0 0) (getD e 1 0) a) _ (λ s r w c. withHeld (grown s w c) p r) (λ a w c. refl) (λ a w c. refl)
   finish-beside (access (check b a d)) = alone-beside (check-fills (s .rec) (s .list) b a d) _ (λ s v w c. withCheckCondition (grown s w c) v) (λ a w c. refl) (λ a w c. refl)
   finish-beside (access (assert b a d)) = assert-beside b a d
   finish-beside (nodeCall (evaluate f a)) = ap (λ (v : Bool). gives (valued v) more) (value-longer k (s .words) (bitAt a) f)

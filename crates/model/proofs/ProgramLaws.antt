@@ -2,7 +2,7 @@
 use mathlib.Core.Path.{_≡_, sym}
 use mathlib.Core.Bool.{Bool, false, not, _&&_, true≢false}
 use mathlib.Core.List.{List, []}
-use Prim.Native.Nat.{ℕ, _*_}
+use Prim.Native.Nat.{ℕ, _*_, _<_}
 use native.Mathlib.Omega.{arith}
 use lib.ListN.{length, getD}
 use Rattle.conditions.specs.Stores.{Standard, Extends, clearOf}
@@ -11,15 +11,16 @@ use Rattle.conditions.specs.Build.{Outcome}
 use Rattle.conditions.specs.Value.{value}
 use Rattle.conditions.specs.Meaning.{Builds}
 use Rattle.conditions.proofs.Promises.{builds-clear, extends-trans, is-user}
-use Rattle.model.specs.Record.{Record, withCount}
+use Rattle.model.specs.Record.{Record, withCount, heldWord}
 use Rattle.model.specs.Access.{Marks, Write, Read, AssertBuilt, Check}
 use Rattle.model.specs.Published.{entry, answer, assertHolds, checkHolds, keeps}
 use Rattle.model.specs.Step.{State, begin, assertFirst}
 use Rattle.model.specs.Claims.{pairAt, pairs}
-use Rattle.model.specs.Meanings.{entryValues}
-use Rattle.model.specs.Table.{WriteFacts, ReadFacts, CheckFacts}
-use Rattle.model.proofs.MeansLaws.{Means, user-means}
-use Rattle.model.proofs.AccessLaws.{MarksMean, write-means, Word, read-means, check-means, AssertBuiltMean, assert-means}
+use Rattle.model.specs.Meanings.{entryValues, portValue}
+use Rattle.model.specs.Table.{AllHoldNodes, WriteFacts, ReadFacts, CheckFacts}
+use Rattle.model.proofs.MeansLaws.{Means, means-as, user-means}
+use Rattle.model.proofs.PortLaws.{held-at, half-at}
+use Rattle.model.proofs.AccessLaws.{MarksMean, write-means, Halves, Word, read-means, check-means, AssertBuiltMean, assert-means}
 use Rattle.model.proofs.RowLaws.{length-pairs, name-means, names-halves}
 use Rattle.model.proofs.FactLaws.{names, users-tell}
 use Rattle.model.proofs.EntryLaws.{holds-values}
@@ -44,12 +45,17 @@ module _ (σ : ℕ → Bool) (s : State) where
       let C = names-halves σ r w S c 1 (F .enable .names) in
       write-means (r .n) (getD c 0 0) (getD c 1 0) a (pairAt σ w c 0) (pairs σ w a (r .n)) (pairs σ w d (r .w)) (length-pairs σ w a 0 (r .n)) w (begin r) S (C .half 0 (omega arith)) (C .half 1 (omega arith)) (names-halves σ r w S a (r .n) (F .address .names))
 
-  pub read-program : (e a out : List ℕ) → ReadFacts s e a out → Builds w (begin r) (Word σ 8 (2 * r .w) (λ τ. answer (r .n) (entryValues σ s) (pairAt σ w e 0) (pairs σ w a (r .n)))) (Read r (s .list) (getD e 0 0) (getD e 1 0) a w (begin r))
-  read-program e a out F =
+  -- the word of a port, where no port has one that row 3 refuses
+  pub port-halves : (p : ℕ) → p < 4 → Standard w (r .count) → AllHoldNodes r w (s .ports) → Halves σ 8 (2 * r .w) (λ τ. portValue σ s p) w (begin r) (heldWord r (s .ports) p)
+  port-halves p four S N = record { half = λ h l. means-as (name-means σ r w S (rw (held-at r (s .ports) p h l) (N p four h l))) (λ τ. half-at σ w (heldWord r (s .ports) p) h) }
+
+  pub read-program : (p : ℕ) (e a out : List ℕ) → ReadFacts s p e a out
+      → Builds w (begin r) (Word σ 8 (2 * r .w) (λ τ. answer (r .n) (entryValues σ s) (portValue σ s p) (pairAt σ w e 0) (pairs σ w a (r .n)))) (Read r (s .list) (heldWord r (s .ports) p) (getD e 0 0) (getD e 1 0) a w (begin r))
+  read-program p e a out F =
       let S = F .memory .standard in
       let C = names-halves σ r w S e 1 (F .enable .names) in
-      read-means r (s .list) (F .memory .range .n-most) (entryValues σ s) (getD e 0 0) (getD e 1 0) a (pairAt σ w e 0) (pairs σ w a (r .n)) (length-pairs σ w a 0 (r .n)) w (begin r) S
-      (holds-values σ s (F .memory) .entries) (C .half 0 (omega arith)) (C .half 1 (omega arith)) (names-halves σ r w S a (r .n) (F .address .names))
+      read-means r (s .list) (F .memory .range .n-most) (entryValues σ s) (getD e 0 0) (getD e 1 0) (heldWord r (s .ports) p) a (pairAt σ w e 0) (portValue σ s p) (pairs σ w a (r .n)) (length-pairs σ w a 0 (r .n)) w (begin r) S
+      (holds-values σ s (F .memory) .entries) (C .half 0 (omega arith)) (C .half 1 (omega arith)) (port-halves p (omega (arith, F .port)) S (F .ports)) (names-halves σ r w S a (r .n) (F .address .names))
 
   module _ (b : ℕ) (a d : List ℕ) (F : CheckFacts s b a d) where
     abbrev S : Standard w (r .count)

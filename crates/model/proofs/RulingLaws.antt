@@ -7,17 +7,17 @@ use lib.Dec.{eqb}
 use borrow.Author.Tests.{eqb-true}
 use Rattle.nodes.proofs.BoolLaws.{and-both}
 use Rattle.conditions.specs.Computing.{computing}
-use Rattle.model.specs.Record.{listCapacity, appended}
-use Rattle.model.specs.Access.{uniqueBit, Unique, Certain, Write, narrowBit, Narrow, halfStep, EachHalf, mergeHalf, entryStep, settleHalf, Look, maskHalf, Read, insideHalf, Inside, Check}
-use Rattle.model.specs.Rows.{row1, row3}
+use Rattle.model.specs.Record.{listCapacity, appended, replaced}
+use Rattle.model.specs.Access.{uniqueBit, Unique, Certain, Write, narrowBit, Narrow, halfStep, EachHalf, mergeHalf, entryStep, settleHalf, Look, holdHalf, Read, insideHalf, Inside, Check}
+use Rattle.model.specs.Rows.{row1, row3, portsRow}
 use Rattle.model.specs.Step.{State, Call, Given, place, filled, entered, kept, accepted, valued, node, Answer, refused, done, isRefused, closed, unlessFull, finishAccess, step, run, fresh}
 use Rattle.model.specs.Rulings.{Expected, reading, leaving, Ruling, rulings, start, result, Taken, Gives, Says, taken, sameWords, fits, answers, ruled, allRuled}
 
 pub rulings-hold : allRuled rulings ≡ true
 unfolding
     computing
-    listCapacity appended uniqueBit Unique Certain Write narrowBit Narrow halfStep EachHalf mergeHalf entryStep settleHalf Look Read insideHalf Inside Check
-    row1 row3 closed unlessFull finishAccess step run fresh rulings start result taken ruled allRuled
+    listCapacity appended replaced uniqueBit Unique Certain Write narrowBit Narrow halfStep EachHalf mergeHalf entryStep settleHalf Look holdHalf Read insideHalf Inside Check
+    row1 row3 portsRow closed unlessFull finishAccess step run fresh rulings start result taken ruled allRuled
 rulings-hold = refl
 
 -- from a test that passes to what it says

@@ -10,71 +10,90 @@ use lib.Dec.{T}
 use lib.ListN.{length}
 use Rattle.model.specs.Pairs.{Pair, admit, admits, at, bit}
 use Rattle.model.specs.Published.{Entry, cell, look, answer, inside}
-use Rattle.model.specs.Array.{Event, writes, reads, asserts, checks, nothing, Memory, Bits, Choice, Choices, memoryAfter, observes, observesFrom, Returns, Allowed, Start, Run}
-use Rattle.model.specs.Held.{Held, holdsNothing, heldAfter, heldAfterAll, NowMay, HeldMay, Accepted, AllAccepted}
+use Rattle.model.specs.Array.{Event, writes, reads, asserts, checks, nothing, Memory, Bits, Choice, Choices, memoryAfter, observes, observesFrom, lastFrom, Returns, Allowed, Start, Run}
+use Rattle.model.specs.Held.{Held, holdsNothing, heldAfter, heldAfterAll, NowMay, RunMay, Accepted, AllAccepted}
 use Rattle.model.proofs.PairLaws.{and-left, and-right, and-both, admits-at, admits-all, inside-to, inside-from}
-use Rattle.model.proofs.ExactLaws.{Admitted, Reached, start-admitted, start-reached, look-within, look-reach, answer-within, answer-reach, some-choice, step-admitted, step-reached}
+use Rattle.model.proofs.ExactLaws.{Admitted, Reached, HeldAdmits, HeldReaches, admitted-along, reached-along, idle-admitted, idle-reached, start-admitted, start-reached, look-within, look-reach, answer-within, answer-reach, some-choice, step-admitted, step-reached}
 
 -- any memory can go on through accepted calls
-some-choices : (n w : ℕ) (es : List Event) → AllAccepted n w es → Choices w es
+some-choices : (n w : ℕ) (es : List Event) → AllAccepted n w es → Choices es
 some-choices n w [] q = tt
 some-choices n w (e ∷ es) q = (some-choice n w e (q .0), some-choices n w es (q .1))
 
 module _ (n w : ℕ) where
+  -- the memories after the list
+  last-admitted : (es : List Event) (s : Held) (I : Type 0) (mem : I → Memory) → HeldAdmits w s I mem → AllAccepted n w es → HeldAdmits w (heldAfterAll n w s es) (I × Choices es) (λ r. lastFrom es (mem (r .0)) (r .1))
+  last-admitted [] s I mem A q = idle-admitted w (cell (s .entries)) (s .ports) I (Unit {0}) mem A
+  last-admitted (e ∷ es) s I mem A q =
+      let t = heldAfterAll n w (heldAfter n w s e) es in
+      admitted-along w (cell (t .entries)) (t .ports) ((I × Choice e) × Choices es) (I × Choices (e ∷ es))
+      (λ r. lastFrom es (memoryAfter e (r .0 .1) (mem (r .0 .0))) (r .1)) (λ r. lastFrom (e ∷ es) (mem (r .0)) (r .1))
+      (λ r. ((r .0, r .1 .0), r .1 .1)) (λ r. refl)
+      (last-admitted es (heldAfter n w s e) (I × Choice e) (λ r. memoryAfter e (r .1) (mem (r .0))) (step-admitted n w s I mem A e (q .0)) (q .1))
+
+  last-reached : (es : List Event) (s : Held) (I : Type 0) (mem : I → Memory) → HeldReaches w s I mem → AllAccepted n w es → HeldReaches w (heldAfterAll n w s es) (I × Choices es) (λ r. lastFrom es (mem (r .0)) (r .1))
+  last-reached [] s I mem R q = idle-reached w (cell (s .entries)) (s .ports) I (Unit {0}) mem tt R
+  last-reached (e ∷ es) s I mem R q =
+      let t = heldAfterAll n w (heldAfter n w s e) es in
+      reached-along w (cell (t .entries)) (t .ports) ((I × Choice e) × Choices es) (I × Choices (e ∷ es))
+      (λ r. lastFrom es (memoryAfter e (r .0 .1) (mem (r .0 .0))) (r .1)) (λ r. lastFrom (e ∷ es) (mem (r .0)) (r .1))
+      (λ r. (r .0 .0, (r .0 .1, r .1))) (λ r. refl)
+      (last-reached es (heldAfter n w s e) (I × Choice e) (λ r. memoryAfter e (r .1) (mem (r .0))) (step-reached n w s I mem R e (q .0)) (q .1))
+
   -- the bits of a read
-  now-within : (s : Held) (I : Type 0) (mem : I → Memory) → Admitted w (cell (s .entries)) I mem → (e : Event) → Accepted n w e → (i : ℕ) → i < w → (b : Bool)
-      (r : I) (k : Choice w e) → Returns (observes w e k (mem r)) i b → NowMay n s e i b
+  now-within : (s : Held) (I : Type 0) (mem : I → Memory) → HeldAdmits w s I mem → (e : Event) → Accepted n w e → (i : ℕ) → i < w → (b : Bool)
+      (r : I) (k : Choice e) → Returns (observes e k (mem r)) i b → NowMay n s e i b
   now-within s I mem A (writes c a d) q i h b r k t = t
-  now-within s I mem A (reads e a) q i h b r k t = subst (λ (z : Bool). T (admit (answer n (s .entries) e a i) z)) t (answer-within n w (s .entries) I mem a e A (q .1 .1) .within (r, k) i h)
+  now-within s I mem A (reads p e a) q i h b r k t = subst (λ (z : Bool). T (admit (answer n (s .entries) (s .ports p) e a i) z)) t (answer-within n w (s .entries) (s .ports) I mem a p e A (q .1 .1) .within (r, k) i h)
   now-within s I mem A (asserts c a d) q i h b r k t = t
   now-within s I mem A (checks true a d) q i h b r k t = t
   now-within s I mem A (checks false a d) q i h b r k t = t
   now-within s I mem A nothing q i h b r k t = t
 
-  now-reach : (s : Held) (I : Type 0) (mem : I → Memory) → Reached w (cell (s .entries)) I mem → (e : Event) → Accepted n w e → (i : ℕ) → i < w → (b : Bool) →
-      NowMay n s e i b → (r : I) × (k : Choice w e) × Returns (observes w e k (mem r)) i b
+  now-reach : (s : Held) (I : Type 0) (mem : I → Memory) → HeldReaches w s I mem → (e : Event) → Accepted n w e → (i : ℕ) → i < w → (b : Bool) →
+      NowMay n s e i b → (r : I) × (k : Choice e) × Returns (observes e k (mem r)) i b
   now-reach s I mem R (writes c a d) q i h b t = absurd t
-  now-reach s I mem R (reads e a) q i h b t = let r = answer-reach n w (s .entries) I mem a e R (q .0) (q .1 .0) .reach i h b t in (r .0 .0, r .0 .1, r .1)
+  now-reach s I mem R (reads p e a) q i h b t = let r = answer-reach n w (s .entries) (s .ports) I mem a p e R (q .0) (q .1 .0) .reach i h b t in (r .0 .0, r .0 .1, r .1)
   now-reach s I mem R (asserts c a d) q i h b t = absurd t
   now-reach s I mem R (checks c a d) q i h b t = absurd t
   now-reach s I mem R nothing q i h b t = absurd t
 
-  pub bits-within : (es : List Event) (s : Held) (I : Type 0) (mem : I → Memory) → Admitted w (cell (s .entries)) I mem → AllAccepted n w es → (j i : ℕ) → i < w → (b : Bool)
-      (r : I) (ks : Choices w es) → Returns (observesFrom w es (mem r) ks j) i b → HeldMay n w s es j i b
+  pub bits-within : (es : List Event) (s : Held) (I : Type 0) (mem : I → Memory) → HeldAdmits w s I mem → AllAccepted n w es → (j i : ℕ) → i < w → (b : Bool)
+      (r : I) (ks : Choices es) → Returns (observesFrom es (mem r) ks j) i b → RunMay n w s es j i b
   bits-within [] s I mem A q j i h b r ks t = t
   bits-within (e ∷ es) s I mem A q zero i h b r ks t = now-within s I mem A e (q .0) i h b r (ks .0) t
   bits-within (e ∷ es) s I mem A q (suc j) i h b r ks t =
-      bits-within es (heldAfter n w s e) (I × Choice w e) (λ z. memoryAfter w e (z .1) (mem (z .0))) (step-admitted n w s I mem A e (q .0)) (q .1) j i h b (r, ks .0) (ks .1) t
+      bits-within es (heldAfter n w s e) (I × Choice e) (λ z. memoryAfter e (z .1) (mem (z .0))) (step-admitted n w s I mem A e (q .0)) (q .1) j i h b (r, ks .0) (ks .1) t
 
-  pub bits-reach : (es : List Event) (s : Held) (I : Type 0) (mem : I → Memory) → Reached w (cell (s .entries)) I mem → AllAccepted n w es → (j i : ℕ) → i < w → (b : Bool) →
-      HeldMay n w s es j i b → (r : I × Choices w es) × Returns (observesFrom w es (mem (r .0)) (r .1) j) i b
+  pub bits-reach : (es : List Event) (s : Held) (I : Type 0) (mem : I → Memory) → HeldReaches w s I mem → AllAccepted n w es → (j i : ℕ) → i < w → (b : Bool) →
+      RunMay n w s es j i b → (r : I × Choices es) × Returns (observesFrom es (mem (r .0)) (r .1) j) i b
   bits-reach [] s I mem R q j i h b t = absurd t
   bits-reach (e ∷ es) s I mem R q zero i h b t = let r = now-reach s I mem R e (q .0) i h b t in ((r .0, (r .1, some-choices n w es (q .1))), r .2)
   bits-reach (e ∷ es) s I mem R q (suc j) i h b t =
-      let r = bits-reach es (heldAfter n w s e) (I × Choice w e) (λ z. memoryAfter w e (z .1) (mem (z .0))) (step-reached n w s I mem R e (q .0)) (q .1) j i h b t in
+      let r = bits-reach es (heldAfter n w s e) (I × Choice e) (λ z. memoryAfter e (z .1) (mem (z .0))) (step-reached n w s I mem R e (q .0)) (q .1) j i h b t in
       ((r .0 .0 .0, (r .0 .0 .1, r .0 .1)), r .1)
 
   -- the check condition
-  check-within : (s : Held) (I : Type 0) (mem : I → Memory) → Admitted w (cell (s .entries)) I mem → (a d : List Pair) → length a ≡ n → length d ≡ w →
+  check-within : (s : Held) (I : Type 0) (mem : I → Memory) → HeldAdmits w s I mem → (a d : List Pair) → length a ≡ n → length d ≡ w →
       T (inside w (look n (s .entries) a) (at d)) → (r : I) (x : Bits a) → T (admits d (mem r .cells (x .0)))
   check-within s I mem A a d na wd t r x =
       admits-all d (mem r .cells (x .0)) (A .cells (x .0) .sized r ∙ sym wd)
       (λ i h.
       let k : i < w = omega arith in
-      inside-to w (look n (s .entries) a) (at d) t i k (bit (mem r .cells (x .0)) i) (look-within n w (s .entries) I mem a A na r x i k))
+      inside-to w (look n (s .entries) a) (at d) t i k (bit (mem r .cells (x .0)) i) (look-within n w (s .entries) (s .ports) I mem a A na r x i k))
 
-  check-reach : (s : Held) (I : Type 0) (mem : I → Memory) → Reached w (cell (s .entries)) I mem → (a d : List Pair) → length d ≡ w →
+  check-reach : (s : Held) (I : Type 0) (mem : I → Memory) → HeldReaches w s I mem → (a d : List Pair) → length d ≡ w →
       ((r : I) (x : Bits a) → T (admits d (mem r .cells (x .0)))) → T (inside w (look n (s .entries) a) (at d))
   check-reach s I mem R a d wd f =
       inside-from w (look n (s .entries) a) (at d)
       (λ i h b t.
-      let r = look-reach n w (s .entries) I mem a R i h b t in
+      let r = look-reach n w (s .entries) (s .ports) I mem a R i h b t in
       subst (λ (c : Bool). T (admit (at d i) c)) (r .2) (admits-at d (mem (r .0) .cells (r .1 .0)) (f (r .0) (r .1)) i (omega arith)))
 
-  now-allowed : (s : Held) (I : Type 0) (mem : I → Memory) → Admitted w (cell (s .entries)) I mem → (e : Event) → Accepted n w e →
-      T (heldAfter n w s e .condition) → T (s .condition) × ((r : I) (k : Choice w e) → Allowed (observes w e k (mem r)))
+  now-allowed : (s : Held) (I : Type 0) (mem : I → Memory) → HeldAdmits w s I mem → (e : Event) → Accepted n w e →
+      T (heldAfter n w s e .condition) → T (s .condition) × ((r : I) (k : Choice e) → Allowed (observes e k (mem r)))
   now-allowed s I mem A (writes c a d) q t = (t, λ r k. tt)
-  now-allowed s I mem A (reads e a) q t = (t, λ r k. tt)
+  now-allowed s I mem A (reads p e a) q t = (t, λ r k. tt)
   now-allowed s I mem A (asserts b a d) q t = (t, λ r k. tt)
   now-allowed s I mem A (checks true a d) q t = (
     and-left (s .condition) (inside w (look n (s .entries) a) (at d)) t,
@@ -83,47 +102,53 @@ module _ (n w : ℕ) where
   now-allowed s I mem A (checks false a d) q t = (and-left (s .condition) true t, λ r k. tt)
   now-allowed s I mem A nothing q t = (t, λ r k. tt)
 
-  now-condition : (s : Held) (I : Type 0) (mem : I → Memory) → Reached w (cell (s .entries)) I mem → (e : Event) → Accepted n w e →
-      T (s .condition) → ((r : I) (k : Choice w e) → Allowed (observes w e k (mem r))) → T (heldAfter n w s e .condition)
+  now-condition : (s : Held) (I : Type 0) (mem : I → Memory) → HeldReaches w s I mem → (e : Event) → Accepted n w e →
+      T (s .condition) → ((r : I) (k : Choice e) → Allowed (observes e k (mem r))) → T (heldAfter n w s e .condition)
   now-condition s I mem R (writes c a d) q t f = t
-  now-condition s I mem R (reads e a) q t f = t
+  now-condition s I mem R (reads p e a) q t f = t
   now-condition s I mem R (asserts b a d) q t f = t
   now-condition s I mem R (checks true a d) q t f = and-both (s .condition) (inside w (look n (s .entries) a) (at d)) t (check-reach s I mem R a d (q .1 .1) f)
   now-condition s I mem R (checks false a d) q t f = and-both (s .condition) true t tt
   now-condition s I mem R nothing q t f = t
 
   all-allowed : (I : Type 0) (mem : I → Memory) (e : Event) (es : List Event) →
-      ((r : I) (k : Choice w e) → Allowed (observes w e k (mem r))) →
-      ((r : (I × Choice w e) × Choices w es) (j : ℕ) → Allowed (observesFrom w es (memoryAfter w e (r .0 .1) (mem (r .0 .0))) (r .1) j)) →
-      (r : I × Choices w (e ∷ es)) (j : ℕ) → Allowed (observesFrom w (e ∷ es) (mem (r .0)) (r .1) j)
+      ((r : I) (k : Choice e) → Allowed (observes e k (mem r))) →
+      ((r : (I × Choice e) × Choices es) (j : ℕ) → Allowed (observesFrom es (memoryAfter e (r .0 .1) (mem (r .0 .0))) (r .1) j)) →
+      (r : I × Choices (e ∷ es)) (j : ℕ) → Allowed (observesFrom (e ∷ es) (mem (r .0)) (r .1) j)
   all-allowed I mem e es f g r zero = f (r .0) (r .1 .0)
   all-allowed I mem e es f g r (suc j) = g ((r .0, r .1 .0), r .1 .1) j
 
-  pub allowed-at : (es : List Event) (s : Held) (I : Type 0) (mem : I → Memory) → Admitted w (cell (s .entries)) I mem → AllAccepted n w es →
-      T (heldAfterAll n w s es .condition) → T (s .condition) × ((r : I × Choices w es) (j : ℕ) → Allowed (observesFrom w es (mem (r .0)) (r .1) j))
+  pub allowed-at : (es : List Event) (s : Held) (I : Type 0) (mem : I → Memory) → HeldAdmits w s I mem → AllAccepted n w es →
+      T (heldAfterAll n w s es .condition) → T (s .condition) × ((r : I × Choices es) (j : ℕ) → Allowed (observesFrom es (mem (r .0)) (r .1) j))
   allowed-at [] s I mem A q t = (t, λ r j. tt)
   allowed-at (e ∷ es) s I mem A q t =
-      let u = allowed-at es (heldAfter n w s e) (I × Choice w e) (λ r. memoryAfter w e (r .1) (mem (r .0))) (step-admitted n w s I mem A e (q .0)) (q .1) t in
+      let u = allowed-at es (heldAfter n w s e) (I × Choice e) (λ r. memoryAfter e (r .1) (mem (r .0))) (step-admitted n w s I mem A e (q .0)) (q .1) t in
       let v = now-allowed s I mem A e (q .0) (u .0) in
       (v .0, all-allowed I mem e es (v .1) (u .1))
 
-  pub condition-at : (es : List Event) (s : Held) (I : Type 0) (mem : I → Memory) → Reached w (cell (s .entries)) I mem → AllAccepted n w es →
-      T (s .condition) → ((r : I × Choices w es) (j : ℕ) → Allowed (observesFrom w es (mem (r .0)) (r .1) j)) → T (heldAfterAll n w s es .condition)
+  pub condition-at : (es : List Event) (s : Held) (I : Type 0) (mem : I → Memory) → HeldReaches w s I mem → AllAccepted n w es →
+      T (s .condition) → ((r : I × Choices es) (j : ℕ) → Allowed (observesFrom es (mem (r .0)) (r .1) j)) → T (heldAfterAll n w s es .condition)
   condition-at [] s I mem R q t f = t
   condition-at (e ∷ es) s I mem R q t f =
-      condition-at es (heldAfter n w s e) (I × Choice w e) (λ r. memoryAfter w e (r .1) (mem (r .0))) (step-reached n w s I mem R e (q .0)) (q .1)
+      condition-at es (heldAfter n w s e) (I × Choice e) (λ r. memoryAfter e (r .1) (mem (r .0))) (step-reached n w s I mem R e (q .0)) (q .1)
       (now-condition s I mem R e (q .0) t (λ r k. f (r, (k, some-choices n w es (q .1))) zero))
       (λ r j. f (r .0 .0, (r .0 .1, r .1)) (suc j))
 
 -- from no entries, over the whole list
 module _ (n w : ℕ) (es : List Event) (q : AllAccepted n w es) where
-  pub reads-exact : (j i : ℕ) → i < w → (b : Bool) → HeldMay n w holdsNothing es j i b ↔ ((r : Run w es) × Returns (observesFrom w es (r .0 .0) (r .1) j) i b)
+  pub reads-exact : (j i : ℕ) → i < w → (b : Bool) → RunMay n w holdsNothing es j i b ↔ ((r : Run w es) × Returns (observesFrom es (r .0 .0) (r .1) j) i b)
   reads-exact j i h b = (
     λ t. bits-reach n w es holdsNothing (Start w) (λ r. r .0) (start-reached w) q j i h b t,
     λ r. bits-within n w es holdsNothing (Start w) (λ r. r .0) (start-admitted w) q j i h b (r .0 .0) (r .0 .1) (r .1),
   )
 
-  pub checks-exact : T (heldAfterAll n w holdsNothing es .condition) ↔ ((r : Run w es) (j : ℕ) → Allowed (observesFrom w es (r .0 .0) (r .1) j))
+  pub ports-exact : (p i : ℕ) → i < w → (b : Bool) → T (admit (heldAfterAll n w holdsNothing es .ports p i) b) ↔ ((r : Run w es) × (bit (lastFrom es (r .0 .0) (r .1) .ports p) i ≡ b))
+  ports-exact p i h b = (
+    λ t. last-reached n w es holdsNothing (Start w) (λ r. r .0) (start-reached w) q .ports p .reach i h b t,
+    λ r. subst (λ (z : Bool). T (admit (heldAfterAll n w holdsNothing es .ports p i) z)) (r .1) (last-admitted n w es holdsNothing (Start w) (λ r. r .0) (start-admitted w) q .ports p .within (r .0) i h),
+  )
+
+  pub checks-exact : T (heldAfterAll n w holdsNothing es .condition) ↔ ((r : Run w es) (j : ℕ) → Allowed (observesFrom es (r .0 .0) (r .1) j))
   checks-exact = (
     λ t. (allowed-at n w es holdsNothing (Start w) (λ r. r .0) (start-admitted w) q t) .1,
     λ f. condition-at n w es holdsNothing (Start w) (λ r. r .0) (start-reached w) q tt f,

@@ -50,7 +50,7 @@ full-stays c s x f h = split (x .store .full) (λ t. rw t tt) (λ t. rw t h)
 finish-stays : (c : Call) (s : State) → FinishStays c s (finish c s)
 unfolding finishAccess finishNode enter
 finish-stays (access (write c a d)) s = full-stays (access (write c a d)) s _ _ (record { asserted = λ e. refl; checked = λ e. refl })
-finish-stays (access (read c a d)) s = full-stays (access (read c a d)) s _ _ (record { asserted = λ e. refl; checked = λ e. refl })
+finish-stays (access (read p c a d)) s = full-stays (access (read p c a d)) s _ _ (record { asserted = λ e. refl; checked = λ e. refl })
 finish-stays (access (check c a d)) s = full-stays (access (check c a d)) s _ _ (record { asserted = λ e. refl; checked = λ e. absurd (true≢false e) })
 finish-stays (access (assert b a d)) s =
     let c = access (assert b a d) in

@@ -9,7 +9,7 @@ use native.Mathlib.Decide.{decLt}
 use lib.Dec.{T, eqb}
 use lib.ListN.{length, getD, length-append, List·getD-append}
 use lib.Seq.{getD-at}
-use borrow.Author.Tests.{eqb-true, leb-true}
+use borrow.Author.Tests.{eqb-true, eqb-false, leb-true}
 use Rattle.nodes.proofs.BoolLaws.{split, and-both}
 use Rattle.conditions.specs.Stores.{Standard, clearOf}
 use Rattle.conditions.specs.declared.Store.{Store}
@@ -21,20 +21,21 @@ use Rattle.conditions.specs.Assignment.{bitAt}
 use Rattle.conditions.specs.Meaning.{Stands, Builds}
 use Rattle.conditions.proofs.Promises.{clear-keep, stands-value, value-1}
 use Rattle.model.specs.Pairs.{Pair, legals, admit, unique, at}
-use Rattle.model.specs.Record.{Record, withCount, withEntries, withAsserted, withChecked, entryAt, appended, listCapacity}
+use Rattle.model.specs.Record.{Record, withCount, withEntries, withAsserted, withChecked, entryAt, appended, listCapacity, heldWord, replaced}
 use Rattle.model.specs.Access.{Marks, Write, Read, AssertBuilt, Assert, Check}
 use Rattle.model.specs.Rows.{row8}
-use Rattle.model.specs.Step.{State, write, read, assert, check, NodeCall, evaluate, variable, ite, Call, access, nodeCall, Given, place, filled, entered, kept, accepted, valued, node, Answer, refused, done, Result, refusal, turnedDown, cleared, Finish, full, short, gives, closed, unlessFull, begin, grown, withEntry, withAssertCondition, withCheckCondition, assertFirst, enter, finishAccess, finishNode, finish, turnedDownBy, step}
+use Rattle.model.specs.Step.{State, write, read, assert, check, NodeCall, evaluate, variable, ite, Call, access, nodeCall, Given, place, filled, entered, kept, accepted, valued, node, Answer, refused, done, Result, refusal, turnedDown, cleared, Finish, full, short, gives, closed, unlessFull, begin, grown, withEntry, withHeld, withAssertCondition, withCheckCondition, assertFirst, enter, finishAccess, finishNode, finish, turnedDownBy, step}
 use Rattle.model.specs.Published.{Entry, entry, answer, checkHolds, assertHolds, control, keeps}
 use Rattle.model.specs.Array.{Event, writes, reads, asserts, checks, nothing}
 use Rattle.model.specs.Held.{Held, add, heldAfter, NowMay, Accepted}
 use Rattle.model.specs.Claims.{pairAt, pairs, event, BitMay}
-use Rattle.model.specs.Table.{CheckFacts, AssertFacts}
+use Rattle.model.specs.Table.{ReadFacts, CheckFacts, AssertFacts}
 use Rattle.model.proofs.PairLaws.{eq→T}
 use Rattle.model.proofs.KeptLaws.{SameHeld, same-after, same-kept}
-use Rattle.model.proofs.MeansLaws.{Means, up, near-self, ite-means, variable-means}
+use Rattle.model.proofs.MeansLaws.{Means, means-as, up, near-self, ite-means, variable-means}
 use Rattle.model.proofs.HalfLaws.{half-even, half-odd}
-use Rattle.model.proofs.AccessLaws.{Halves, EntryMeans, noEntry, EntriesMean, up-halves, up-entries, MarksMean, write-means, read-means, check-means, AssertBuiltMean, assert-means}
+use Rattle.model.proofs.AccessLaws.{Halves, EntryMeans, noEntry, EntriesMean, up-halves, up-entries, MarksMean, write-means, Word, read-means, check-means, AssertBuiltMean, assert-means}
+use Rattle.model.proofs.PortLaws.{held-at, replaced-length, replaced-in, replaced-other, half-at}
 use Rattle.model.proofs.ListLaws.{new-address, new-data, entry-old, entry-new}
 use Rattle.model.proofs.FactLaws.{space-room, write-facts, read-facts, check-facts, assert-facts, variable-facts, ite-facts}
 use Rattle.model.proofs.RowLaws.{length-pairs, name-means, names-halves, pair-legal, pairs-legal, pairs-unique}
@@ -59,7 +60,7 @@ listAfter n w h k e = cond k h (heldAfter n w h e)
 -- an assert that may be kept
 abbrev pub KeepsEvent : ℕ → ℕ → Held → Event → Type 0
 KeepsEvent n w h (writes c a d) = ⊥
-KeepsEvent n w h (reads e a) = ⊥
+KeepsEvent n w h (reads p e a) = ⊥
 KeepsEvent n w h (asserts b a d) = T (keeps n w (h .entries) b a d)
 KeepsEvent n w h (checks b a d) = ⊥
 KeepsEvent n w h nothing = ⊥
@@ -68,7 +69,7 @@ KeepsEvent n w h nothing = ⊥
 pub same-list : (n w : ℕ) (s t : Held) → SameHeld w s t → (k : Bool) (e : Event) → Accepted n w e → (k ≡ true → KeepsEvent n w s e) → SameHeld w (listAfter n w s k e) (heldAfter n w t e)
 same-list n w s t S false e q f = same-after n w s t S e
 same-list n w s t S true (writes c a d) q f = absurd (f refl)
-same-list n w s t S true (reads e a) q f = absurd (f refl)
+same-list n w s t S true (reads p e a) q f = absurd (f refl)
 same-list n w s t S true (asserts b a d) q f = same-kept n w s t S b a d q (f refl)
 same-list n w s t S true (checks b a d) q f = absurd (f refl)
 same-list n w s t S true nothing q f = absurd (f refl)
@@ -78,14 +79,20 @@ pub record Holds (σ : ℕ → Bool) (s : State) (h : Held) : Type 0 where
   pub entries : EntriesMean σ (s .rec) (h .entries) (s .words) (begin (s .rec)) (s .list)
   pub checked : Means σ 8 (λ τ. h .condition) (s .words) (begin (s .rec)) (s .rec .checked)
 
--- what a call leaves goes on holding; n and w stay; and a read's bits are the published answer's
+-- each port's word means these pairs
+pub record PortsMean (σ : ℕ → Bool) (s : State) (g : ℕ → ℕ → Pair) : Type 0 where
+  pub words : (p : ℕ) → p < 4 → Halves σ 8 (2 * s .rec .w) (λ τ. g p) (s .words) (begin (s .rec)) (heldWord (s .rec) (s .ports) p)
+
+-- what a call leaves goes on holding, and the ports with it; n and w stay; and a read's bits are the published answer's
 pub record Follows (σ : ℕ → Bool) (s : State) (h : Held) (c : Call) (x : Result) : Type 0 where
   pub same-n : x .after .rec .n ≡ s .rec .n
   pub same-w : x .after .rec .w ≡ s .rec .w
   pub accepted : Accepted (s .rec .n) (s .rec .w) (event σ s c (x .answer))
   pub keeping : isKept (x .answer) ≡ true → KeepsEvent (s .rec .n) (s .rec .w) h (event σ s c (x .answer))
   pub holds : Holds σ (x .after) (listAfter (s .rec .n) (s .rec .w) h (isKept (x .answer)) (event σ s c (x .answer)))
-  pub bits : (i : ℕ) → i < s .rec .w → (b : Bool) → BitMay σ (x .after .words) (x .answer) i b ↔ NowMay (s .rec .n) h (event σ s c (x .answer)) i b
+  pub long : length (s .ports) ≡ 128 → length (x .after .ports) ≡ 128
+  pub ports : length (s .ports) ≡ 128 → PortsMean σ s (h .ports) → PortsMean σ (x .after) (listAfter (s .rec .n) (s .rec .w) h (isKept (x .answer)) (event σ s c (x .answer)) .ports)
+  pub bits : PortsMean σ s (h .ports) → (i : ℕ) → i < s .rec .w → (b : Bool) → BitMay σ (x .after .words) (x .answer) i b ↔ NowMay (s .rec .n) h (event σ s c (x .answer)) i b
 
 -- the meanings of entries do not turn on the record's other fields
 entries-at : {σ : ℕ → Bool} {es : List Entry} {w : List ℕ} {s : Store} {l : List ℕ} (r : Record) (c a k : ℕ) → EntriesMean σ r es w s l → EntriesMean σ (withChecked (withAsserted (withCount r c) a) k) es w s l
@@ -122,7 +129,7 @@ free-store P s e p = subst P (λ i. record { count = s .count; full = e i }) p
 module _ (σ : ℕ → Bool) (s : State) (h : Held) (H : Holds σ s h) (c : Call) where
   -- a refusal that leaves everything
   turned-follows : (k : ℕ) → Follows σ s h c (turnedDown k s)
-  turned-follows k = record { same-n = refl; same-w = refl; accepted = tt; keeping = λ z. absurd (false≢true z); holds = H; bits = λ i l b. (λ z. z, λ z. z) }
+  turned-follows k = record { same-n = refl; same-w = refl; accepted = tt; keeping = λ z. absurd (false≢true z); holds = H; long = λ n. n; ports = λ n P. P; bits = λ P i l b. (λ z. z, λ z. z) }
 
   module _ (S : Standard (s .words) (s .rec .count)) where
     clear-means : {u n : ℕ} {μ : (ℕ → Bool) → Bool} → Means σ u μ (s .words) (begin (s .rec)) n → Means σ u μ (clearOf (s .words) (s .rec .count)) (begin (s .rec)) n
@@ -150,7 +157,9 @@ module _ (σ : ℕ → Bool) (s : State) (h : Held) (H : Holds σ s h) (c : Call
             };
             checked = clear-means (H .checked);
           };
-          bits = λ i l b. (λ z. z, λ z. z);
+          long = λ n. n;
+          ports = λ n P. record { words = λ p l. clear-halves (P .words p l) };
+          bits = λ P i l b. (λ z. z, λ z. z);
         }
 
     -- a program, and what follows it where the store is not full
@@ -169,15 +178,50 @@ module _ (σ : ℕ → Bool) (s : State) (h : Held) (H : Holds σ s h) (c : Call
       grown-holds : Holds σ (grown s (x .words) (x .store .count)) h
       grown-holds = record { entries = entries-at (s .rec) (x .store .count) (s .rec .asserted) (s .rec .checked) grown-entries; checked = grown-checked }
 
+      -- and the same ports
+      grown-halves : {k : ℕ} {f : ℕ → Pair} {ws : List ℕ} → Halves σ 8 k (λ τ. f) (s .words) (begin (s .rec)) ws → Halves σ 8 k (λ τ. f) (x .words) (record { count = x .store .count; full = false }) ws
+      grown-halves {k} {f} {ws} A = free-store (λ (t : Store). Halves σ 8 k (λ τ. f) (x .words) t ws) (x .store) e (up-halves S X A)
+
+      grown-ports : {g : ℕ → ℕ → Pair} → PortsMean σ s g → PortsMean σ (grown s (x .words) (x .store .count)) g
+      grown-ports P = record { words = λ p l. grown-halves (P .words p l) }
+
 pub pair-is : (p q : Pair) → p .h ≡ q .h → p .l ≡ q .l → p ≡ q
 pair-is p q a b = λ i. record { h = a i; l = b i }
+
+-- pairs that a port's word means are its values
+pub port-is : {σ : ℕ → Bool} {s : State} {g : ℕ → ℕ → Pair} → PortsMean σ s g → (p i : ℕ) → p < 4 → i < s .rec .w → pairAt σ (s .words) (heldWord (s .rec) (s .ports) p) i ≡ g p i
+port-is {σ} {s} {g} P p i l m =
+    let W = P .words p l in
+    pair-is (pairAt σ (s .words) (heldWord (s .rec) (s .ports) p) i) (g p i) (W .half (2 * i) (omega arith) .is refl σ (near-self σ) ∙ half-even i (g p)) (W .half (2 * i + 1) (omega arith) .is refl σ (near-self σ) ∙ half-odd i (g p))
 
 iff-admit : (p q : Pair) (b : Bool) → p ≡ q → T (admit p b) ↔ T (admit q b)
 iff-admit p q b e = (λ z. subst (λ (x : Pair). T (admit x b)) e z, λ z. subst (λ (x : Pair). T (admit x b)) (sym e) z)
 
+-- a word latched in port p
+latched-long : (w p : ℕ) (ps word : List ℕ) → w ≤ 16 → p ≤ 3 → length word ≡ 2 * w → length ps ≡ 128 → length (replaced ps p word) ≡ 128
+latched-long w p ps word wide port size long = replaced-length ps p word (omega (arith, long, size)) ∙ long
+
+latched : {σ : ℕ → Bool} {s : State} {g : ℕ → ℕ → Pair} {f : ℕ → Pair} {p : ℕ} {word : List ℕ} → s .rec .w ≤ 16 → p ≤ 3 → length word ≡ 2 * s .rec .w → length (s .ports) ≡ 128 → PortsMean σ s g
+    → Halves σ 8 (2 * s .rec .w) (λ τ. f) (s .words) (begin (s .rec)) word → PortsMean σ (withHeld s p word) (λ q. cond (eqb q p) f (g q))
+latched {σ} {s} {g} {f} {p} {word} wide port size long P W = record { words = λ q l. go q l (eqb q p) refl }
+  where
+    fits : p * 32 + length word ≤ length (s .ports)
+    fits = omega (arith, long, size)
+
+    go : (q : ℕ) → q < 4 → (t : Bool) → eqb q p ≡ t → Halves σ 8 (2 * s .rec .w) (λ τ. cond t f (g q)) (s .words) (begin (s .rec)) (heldWord (s .rec) (replaced (s .ports) p word) q)
+    go q l true e =
+        let z : q ≡ p = eqb-true q p e in
+        record { half = λ i m. rw (held-at (s .rec) (replaced (s .ports) p word) q i m, z, replaced-in (s .ports) p word fits i (omega (arith, size))) (W .half i m) }
+    go q l false e =
+        record { half = λ i m. rw (held-at (s .rec) (replaced (s .ports) p word) q i m, replaced-other (s .ports) p word fits (omega (arith, size)) q i (eqb-false q p e) (omega arith), ← held-at (s .rec) (s .ports) q i m) (P .words q l .half i m) }
+
 module _ (k : ℕ) (small : k < 2 ^ 64) (s : State) (h : Held) (H : Holds (bitAt k) s h) where
   abbrev σ : ℕ → Bool
   σ = bitAt k
+
+  -- the words of a port that row 3 does not refuse
+  names-port : {p : ℕ} {en a out : List ℕ} → ReadFacts s p en a out → Halves σ 8 (2 * s .rec .w) (λ τ. pairAt σ (s .words) (heldWord (s .rec) (s .ports) p)) (s .words) (begin (s .rec)) (heldWord (s .rec) (s .ports) p)
+  names-port {p} F = record { half = λ i l. means-as (name-means σ (s .rec) (s .words) (F .memory .standard) (rw (held-at (s .rec) (s .ports) p i l) (F .ports p (omega (arith, F .port)) i l))) (λ τ. half-at σ (s .words) (heldWord (s .rec) (s .ports) p) i) }
 
   write-follows : (c a d : List ℕ) → refusal (access (write c a d)) s ≡ 0 → Follows σ s h (access (write c a d)) (closed s (finish (access (write c a d)) s))
   unfolding finishAccess closed listCapacity
@@ -211,31 +255,42 @@ module _ (k : ℕ) (small : k < 2 ^ 64) (s : State) (h : Held) (H : Holds (bitAt
               lq;
           checked = grown-checked σ s h H (access (write c a d)) S X e;
         };
-        bits = λ i l b. (λ z. z, λ z. z);
+        long = λ n. n;
+        ports = λ n P. let Q = grown-ports σ s h H (access (write c a d)) S X e P in record { words = Q .words };
+        bits = λ P i l b. (λ z. z, λ z. z);
       })
 
-  read-follows : (en a out : List ℕ) → refusal (access (read en a out)) s ≡ 0 → Follows σ s h (access (read en a out)) (closed s (finish (access (read en a out)) s))
+  read-follows : (p : ℕ) (en a out : List ℕ) → refusal (access (read p en a out)) s ≡ 0 → Follows σ s h (access (read p en a out)) (closed s (finish (access (read p en a out)) s))
   unfolding finishAccess closed
-  read-follows en a out e =
-      let F = read-facts s en a out e in
+  read-follows p en a out e =
+      let F = read-facts s p en a out e in
       let S = F .memory .standard in
+      let held = heldWord (s .rec) (s .ports) p in
       let C = names-halves σ (s .rec) (s .words) S en 1 (F .enable .names) in
       let A = names-halves σ (s .rec) (s .words) S a (s .rec .n) (F .address .names) in
-      let p = pairAt σ (s .words) en 0 in
+      let q = pairAt σ (s .words) en 0 in
       let qs = pairs σ (s .words) a (s .rec .n) in
       let lq = length-pairs σ (s .words) a 0 (s .rec .n) in
-      let X = read-means (s .rec) (s .list) (F .memory .range .n-most) (h .entries) (getD en 0 0) (getD en 1 0) a p qs lq (s .words) (begin (s .rec)) S (H .entries) (C .half 0 (omega arith)) (C .half 1 (omega arith)) A in
-      let x = Read (s .rec) (s .list) (getD en 0 0) (getD en 1 0) a (s .words) (begin (s .rec)) in
-      nine-follows σ s h H (access (read en a out)) S x _
+      let X : (g : ℕ → Pair) → Halves σ 8 (2 * s .rec .w) (λ τ. g) (s .words) (begin (s .rec)) held → Builds (s .words) (begin (s .rec)) (Word σ 8 (2 * s .rec .w) (λ τ. answer (s .rec .n) (h .entries) g q qs)) (Read (s .rec) (s .list) held (getD en 0 0) (getD en 1 0) a (s .words) (begin (s .rec)))
+      = λ g G. read-means (s .rec) (s .list) (F .memory .range .n-most) (h .entries) (getD en 0 0) (getD en 1 0) held a q g qs lq (s .words) (begin (s .rec)) S (H .entries) (C .half 0 (omega arith)) (C .half 1 (omega arith)) G A in
+      let x = Read (s .rec) (s .list) held (getD en 0 0) (getD en 1 0) a (s .words) (begin (s .rec)) in
+      let four : p < 4 = omega (arith, F .port) in
+      nine-follows σ s h H (access (read p en a out)) S x _
       (λ e. record {
         same-n = refl;
         same-w = refl;
-        accepted = (pair-legal k small (s .rec) (s .words) en 1 (F .enable .legal) 0 (omega arith), (pairs-legal k small (s .rec) (s .words) a (s .rec .n) (F .address .legal), lq));
+        accepted = (pair-legal k small (s .rec) (s .words) en 1 (F .enable .legal) 0 (omega arith), (pairs-legal k small (s .rec) (s .words) a (s .rec .n) (F .address .legal), lq), four);
         keeping = λ z. absurd (false≢true z);
-        holds = grown-holds σ s h H (access (read en a out)) S X e;
-        bits = λ i l b.
-            let f = answer (s .rec .n) (h .entries) p qs in
-            let W = X .post .halves in
+        holds =
+            let G = grown-holds σ s h H (access (read p en a out)) S (X (pairAt σ (s .words) held) (names-port F)) e in
+            record { entries = G .entries; checked = G .checked };
+        long = λ n. latched-long (s .rec .w) p (s .ports) (x .answer) (F .memory .range .w-most) (F .port) (X (pairAt σ (s .words) held) (names-port F) .post .size) n;
+        ports = λ n P.
+            let Y = X (h .ports p) (P .words p four) in
+            latched (F .memory .range .w-most) (F .port) (Y .post .size) n (grown-ports σ s h H (access (read p en a out)) S Y e P) (free-store (λ (t : Store). Halves σ 8 (2 * s .rec .w) (λ τ. answer (s .rec .n) (h .entries) (h .ports p) q qs) (x .words) t (x .answer)) (x .store) e (Y .post .halves));
+        bits = λ P i l b.
+            let f = answer (s .rec .n) (h .entries) (h .ports p) q qs in
+            let W = X (h .ports p) (P .words p four) .post .halves in
             iff-admit (pairAt σ (x .words) (x .answer) i) (f i) b
             (pair-is (pairAt σ (x .words) (x .answer) i) (f i) (W .half (2 * i) (omega arith) .is e σ (near-self σ) ∙ half-even i f) (W .half (2 * i + 1) (omega arith) .is e σ (near-self σ) ∙ half-odd i f));
       })
@@ -262,7 +317,9 @@ module _ (k : ℕ) (small : k < 2 ^ 64) (s : State) (h : Held) (H : Holds (bitAt
           entries = entries-at (s .rec) (x .store .count) (s .rec .asserted) (x .answer) (grown-entries σ s h H (access (check b a d)) S X e);
           checked = free-store (λ (t : Store). Means σ 8 (λ τ. h .condition && checkHolds (s .rec .n) (s .rec .w) (h .entries) (value (s .words) σ b) qs ds) (x .words) t (x .answer)) (x .store) e (X .post);
         };
-        bits = λ i l b. (λ z. z, λ z. z);
+        long = λ n. n;
+        ports = λ n P. let Q = grown-ports σ s h H (access (check b a d)) S X e P in record { words = Q .words };
+        bits = λ P i l b. (λ z. z, λ z. z);
       })
 
   module _ (b : ℕ) (a d : List ℕ) (e : refusal (access (assert b a d)) s ≡ 0) where
@@ -324,6 +381,9 @@ module _ (k : ℕ) (small : k < 2 ^ 64) (s : State) (h : Held) (H : Holds (bitAt
       checked1 : Means σ 8 (λ τ. h .condition) (x .words) one (r .checked)
       checked1 = grown-checked σ s h H (access (assert b a d)) standard assert-builds free
 
+      ports1 : PortsMean σ s (h .ports) → PortsMean σ (grown s (x .words) (x .store .count)) (h .ports)
+      ports1 P = grown-ports σ s h H (access (assert b a d)) standard assert-builds free P
+
       -- an assert that is kept
       kept-follows : x .answer .keep ≡ 1 → Follows σ s h (access (assert b a d)) (record { answer = done kept; after = withAssertCondition (grown s (x .words) (x .store .count)) (x .answer .condition) })
       kept-follows q =
@@ -334,7 +394,9 @@ module _ (k : ℕ) (small : k < 2 ^ 64) (s : State) (h : Held) (H : Holds (bitAt
             accepted = legal-arguments;
             keeping = λ z. eq→T t;
             holds = record { entries = entries-at r (x .store .count) (x .answer .condition) (r .checked) entries1; checked = checked1 };
-            bits = λ i l b. (λ z. z, λ z. z);
+            long = λ n. n;
+            ports = λ n P. let Q = ports1 P in record { words = Q .words };
+            bits = λ P i l b. (λ z. z, λ z. z);
           }
 
       -- its Write
@@ -370,7 +432,9 @@ module _ (k : ℕ) (small : k < 2 ^ 64) (s : State) (h : Held) (H : Holds (bitAt
                   lq;
               checked = free-store (λ (t : Store). Means σ 8 (λ τ. h .condition) (y .words) t (r .checked)) (y .store) free2 (up (assert-builds .standard) enter-builds checked1);
             };
-            bits = λ i l b. (λ z. z, λ z. z);
+            long = λ n. n;
+            ports = λ n P. record { words = λ p l. free-store (λ (t : Store). Halves σ 8 (2 * r .w) (λ τ. h .ports p) (y .words) t (heldWord r (s .ports) p)) (y .store) free2 (up-halves (assert-builds .standard) enter-builds (ports1 P .words p l)) };
+            bits = λ P i l b. (λ z. z, λ z. z);
           }
 
       enter-follows : Follows σ s h (access (assert b a d)) (closed s (enter s b a d (x .answer) (x .words) (x .store .count)))
@@ -387,22 +451,22 @@ module _ (k : ℕ) (small : k < 2 ^ 64) (s : State) (h : Held) (H : Holds (bitAt
 
   node-follows : (c : NodeCall) → refusal (nodeCall c) s ≡ 0 → Follows σ s h (nodeCall c) (closed s (finish (nodeCall c) s))
   unfolding finishNode closed
-  node-follows (evaluate f φ) e = record { same-n = refl; same-w = refl; accepted = tt; keeping = λ z. absurd (false≢true z); holds = H; bits = λ i l b. (λ z. z, λ z. z) }
+  node-follows (evaluate f φ) e = record { same-n = refl; same-w = refl; accepted = tt; keeping = λ z. absurd (false≢true z); holds = H; long = λ n. n; ports = λ n P. P; bits = λ P i l b. (λ z. z, λ z. z) }
   node-follows (variable v) e =
       let F = variable-facts s v e in
       let X = variable-means {σ = σ} {s = begin (s .rec)} {v = v} (F .standard) (omega (arith, F .named .1)) in
       nine-follows σ s h H (nodeCall (variable v)) (F .standard) (Variable v (s .words) (begin (s .rec))) _
-      (λ f. record { same-n = refl; same-w = refl; accepted = tt; keeping = λ z. absurd (false≢true z); holds = grown-holds σ s h H (nodeCall (variable v)) (F .standard) X f; bits = λ i l b. (λ z. z, λ z. z) })
+      (λ f. record { same-n = refl; same-w = refl; accepted = tt; keeping = λ z. absurd (false≢true z); holds = grown-holds σ s h H (nodeCall (variable v)) (F .standard) X f; long = λ n. n; ports = λ n P. grown-ports σ s h H (nodeCall (variable v)) (F .standard) X f P; bits = λ P i l b. (λ z. z, λ z. z) })
   node-follows (ite f g j) e =
       let F = ite-facts s f g j e in
       let S = F .standard in
       let X = ite-means S (name-means σ (s .rec) (s .words) S (F .named .0)) (name-means σ (s .rec) (s .words) S (F .named .1)) (name-means σ (s .rec) (s .words) S (F .named .2)) in
       nine-follows σ s h H (nodeCall (ite f g j)) S (Ite f g j (s .words) (begin (s .rec))) _
-      (λ q. record { same-n = refl; same-w = refl; accepted = tt; keeping = λ z. absurd (false≢true z); holds = grown-holds σ s h H (nodeCall (ite f g j)) S X q; bits = λ i l b. (λ z. z, λ z. z) })
+      (λ q. record { same-n = refl; same-w = refl; accepted = tt; keeping = λ z. absurd (false≢true z); holds = grown-holds σ s h H (nodeCall (ite f g j)) S X q; long = λ n. n; ports = λ n P. grown-ports σ s h H (nodeCall (ite f g j)) S X q P; bits = λ P i l b. (λ z. z, λ z. z) })
 
   finish-follows : (c : Call) → refusal c s ≡ 0 → Follows σ s h c (closed s (finish c s))
   finish-follows (access (write c a d)) e = write-follows c a d e
-  finish-follows (access (read en a out)) e = read-follows en a out e
+  finish-follows (access (read p en a out)) e = read-follows p en a out e
   finish-follows (access (assert b a d)) e = assert-follows b a d e
   finish-follows (access (check b a d)) e = check-follows b a d e
   finish-follows (nodeCall c) e = node-follows c e

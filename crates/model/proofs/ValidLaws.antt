@@ -1,25 +1,27 @@
 -- What a state becomes when a call succeeds: it extends what was there, and is valid where that was.
-use mathlib.Core.Path.{_≡_, refl, ap}
+use mathlib.Core.Path.{_≡_, refl, ap, _∙_}
 use mathlib.Core.Bool.{true}
 use mathlib.Core.List.{List, _∷_, _++_}
 use Prim.Native.Nat.{ℕ, zero, suc, _+_, _*_, _-_, _<_, _≤_}
 use native.Mathlib.Nat.{suc-mul}
 use native.Mathlib.Omega.{arith}
-use native.Mathlib.Decide.{decLt}
+use native.Mathlib.Decide.{decLt, ℕ-discrete}
 use lib.ListN.{length, getD, List·getD-append}
 use lib.Seq.{getD-append-add}
 use Rattle.nodes.proofs.SearchLaws.{every-is, is-every}
 use Rattle.conditions.specs.Stores.{Standard, Agree, Extends}
 use Rattle.conditions.specs.User.{isUser}
 use Rattle.conditions.proofs.Promises.{from-stays, is-standard, user-is, is-user}
-use Rattle.model.specs.Record.{Record, size, listCapacity, appended}
+use Rattle.model.specs.Record.{Record, size, listCapacity, appended, portAt, replaced}
 use Rattle.model.specs.Access.{Marks}
-use Rattle.model.specs.Rows.{users, row1, row3}
-use Rattle.model.specs.Step.{State, grown, withEntry, withAssertCondition, withCheckCondition}
-use Rattle.model.specs.Frames.{Extended, Valid}
+use Rattle.model.specs.Rows.{users, row1, row3, portsRow}
+use Rattle.model.specs.Step.{State, grown, withEntry, withAssertCondition, withCheckCondition, withHeld}
+use Rattle.model.specs.Frames.{Extended, Valid, PortsValid}
 use Rattle.model.specs.Table.{Listed}
 use Rattle.model.proofs.ListLaws.{entry-word, appended-length, appended-old, appended-past, entry-new}
 use Rattle.model.proofs.FactLaws.{fits-is, names, row3-tells}
+use Rattle.nodes.specs.Search.{every}
+use Rattle.model.proofs.PortLaws.{replaced-length, replaced-in, replaced-other}
 
 -- a word that names a node which 5 accepts
 abbrev pub User : State → ℕ → Type 0
@@ -130,3 +132,33 @@ module _ (s : State) (m : Marks) (a d : List ℕ) (na : length a ≡ 2 * s .rec 
           checked = T .checked;
         });
       }
+
+-- the ports as facts: each word that a port holds names a node which 5 accepts
+abbrev pub PortUsers : State → Type 0
+PortUsers s = (p : ℕ) → p < 4 → (i : ℕ) → i < 2 * s .rec .w → User s (getD (s .ports) (p * 32 + i) 0)
+
+pub ports-users : (s : State) → PortsValid s → PortUsers s
+unfolding portsRow
+ports-users s H p l i m =
+    every-is (λ i. isUser (s .words) (s .rec .count) (getD (s .ports) (portAt p + i) 0)) (2 * s .rec .w) 0
+    (every-is (λ p. every (λ i. isUser (s .words) (s .rec .count) (getD (s .ports) (portAt p + i) 0)) 0 (2 * s .rec .w)) 4 0 (H .three) p (omega arith) (omega arith)) i (omega arith) (omega arith)
+
+pub users-ports : (s : State) → length (s .ports) ≡ 128 → PortUsers s → PortsValid s
+unfolding portsRow
+users-ports s long U =
+    record {
+      three = is-every (λ p. every (λ i. isUser (s .words) (s .rec .count) (getD (s .ports) (portAt p + i) 0)) 0 (2 * s .rec .w)) 4 0
+          (λ p a b. is-every (λ i. isUser (s .words) (s .rec .count) (getD (s .ports) (portAt p + i) 0)) (2 * s .rec .w) 0 (λ i c d. U p (omega arith) i (omega arith)));
+      long = long;
+    }
+
+-- a word of such nodes latched in port p
+pub latched-valid : (s : State) (p : ℕ) (word : List ℕ) → s .rec .w ≤ 16 → p ≤ 3 → length word ≡ 2 * s .rec .w → ((i : ℕ) → i < 2 * s .rec .w → User s (getD word i 0)) → PortsValid s → PortsValid (withHeld s p word)
+latched-valid s p word wide port size U H = users-ports (withHeld s p word) (replaced-length (s .ports) p word fits ∙ H .long) (λ q l i m. go q l i m (ℕ-discrete q p))
+  where
+    fits : p * 32 + length word ≤ length (s .ports)
+    fits = omega (arith, H .long, size)
+
+    go : (q : ℕ) → q < 4 → (i : ℕ) → i < 2 * s .rec .w → Dec (q ≡ p) → User s (getD (replaced (s .ports) p word) (q * 32 + i) 0)
+    go q l i m (yes e) = rw (e, replaced-in (s .ports) p word fits i (omega (arith, size))) (U i m)
+    go q l i m (no ne) = rw (replaced-other (s .ports) p word fits (omega (arith, size)) q i ne (omega arith)) (ports-users s H q l i m)

@@ -89,15 +89,19 @@ Look r l a = do
   word ← forEach (λ j. entryStep r inside (entryAt r l j)) 0 (r .entries) (replicate (cellWords r) 1)
   EachHalf (λ k. settleHalf inside) (cellWords r) word
 
--- "Read(e,a): Look(a), then E = And(e.h, Not e.l), then each half Ite(E, r, 1)"
-abbrev pub maskHalf : ℕ → ℕ → Build ℕ
-maskHalf e r = Ite e r 1
+-- 02: "Enable 1 gives the look, enable 0 the port's last word, X the bitwise union of both." S = And(e.h, e.l) where the enable is X;
+-- each half r of the look, beside p of the held word: t = Ite(S, r, e.h), then Ite(t, r, p)
+unfoldable pub holdHalf : ℕ → ℕ → ℕ → ℕ → Build ℕ
+holdHalf s eh p r = do
+  t ← Ite s r eh
+  Ite t r p
 
-unfoldable pub Read : Record → List ℕ → ℕ → ℕ → List ℕ → Build (List ℕ)
-Read r l eh el a = do
+-- "Read(e,a): Look(a), then", with the word that the port holds
+unfoldable pub Read : Record → List ℕ → List ℕ → ℕ → ℕ → List ℕ → Build (List ℕ)
+Read r l held eh el a = do
   looked ← Look r l a
-  e ← Certain eh el
-  EachHalf (λ k. maskHalf e) (dataWords r) looked
+  s ← And eh el
+  EachHalf (λ k. holdHalf s eh (getD held k 0)) (dataWords r) looked
 
 -- "C = 1, and for each bit C = And(C, Or(Not r.h, d.h)), then with l": for each half of x and y
 unfoldable pub insideHalf : ℕ → ℕ → ℕ → Build ℕ

@@ -9,8 +9,9 @@ use Rattle.conditions.specs.Value.{value}
 use Rattle.conditions.specs.Assignment.{bitAt}
 use Rattle.model.specs.Record.{Record}
 use Rattle.model.specs.Step.{State, Access, NodeCall, Call, access, nodeCall, accepted, Answer, refused, done, Result, step, Fresh, fresh}
-use Rattle.model.specs.Array.{Event, Run, observed, Returns, Allowed}
-use Rattle.model.specs.Claims.{event, BitMay}
+use Rattle.model.specs.Pairs.{bit}
+use Rattle.model.specs.Array.{Event, Memory, Run, observed, lastMemory, Returns, Allowed}
+use Rattle.model.specs.Claims.{event, BitMay, HeldMay}
 use Rattle.model.specs.Frames.{acceptedWrites}
 
 -- a call takes a state to the next, with this answer
@@ -29,16 +30,16 @@ abbrev pub numbered : ℕ → Answer
 numbered zero = done accepted
 numbered (suc k) = refused (suc k)
 
-abbrev pub freshed : Fresh → Answer × Record × List ℕ
-freshed x = (numbered (x .answer), x .rec, x .words)
+abbrev pub freshed : Fresh → Answer × Record × List ℕ × List ℕ
+freshed x = (numbered (x .answer), x .rec, x .words, x .ports)
 
--- a call, what it answered, and the record, node words and list that it left
+-- a call, what it answered, and the record, node words, list and ports that it left
 pub record Link : Type 0 where
   pub call : Call
   pub answer : Answer
   pub after : State
 
--- "Record, node words and list go from call to call as the last one left them": each link meets the call's contract
+-- "Record, node words and list go from call to call as the last one left them", and "the ports go from call to call as the list does": each link meets the call's contract
 abbrev pub Chained : State → List Link → Type 0
 Chained s [] = Unit {0}
 Chained s (k ∷ ks) = Answered (k .call) s (k .after) (k .answer) × Chained (k .after) ks
@@ -58,17 +59,20 @@ MayBe φ [] j i b = ⊥
 MayBe φ (k ∷ ks) zero i b = BitMay φ (k .after .words) (k .answer) i b
 MayBe φ (k ∷ ks) (suc j) i b = MayBe φ ks j i b
 
--- the claim of one chain, under one assignment: its read bits, and "the check condition in record and node words after the last call"
+-- the claim of one chain, under one assignment: its read bits, the words that the ports hold after it, and "the check condition in record and node words after the last call"
 pub record ExactlyRuns (s : State) (ks : List Link) (φ : ℕ → Bool) : Type 0 where
   pub bits : (j i : ℕ) → i < s .rec .w → (b : Bool)
       → MayBe φ ks j i b ↔ ((r : Run (s .rec .w) (eventsOf φ s ks)) × Returns (observed (s .rec .w) (eventsOf φ s ks) r j) i b)
+  pub holds : (p i : ℕ) → p < 4 → i < s .rec .w → (b : Bool)
+      → HeldMay φ (lastState s ks) p i b ↔ ((r : Run (s .rec .w) (eventsOf φ s ks)) × (bit (lastMemory (s .rec .w) (eventsOf φ s ks) r .ports p) i ≡ b))
   pub checking : T (value (lastState s ks .words) φ (lastState s ks .rec .checked))
       ↔ ((r : Run (s .rec .w) (eventsOf φ s ks)) (j : ℕ) → Allowed (observed (s .rec .w) (eventsOf φ s ks) r j))
 
--- "The first gets the record and node words that an accepted Fresh left, and a list of any words, for any n, w and sizes."
+-- "The first gets the record and node words that an accepted Fresh left, and a list of any words, for any n, w and sizes", and the ports that it left
 unfoldable pub ChainExactly : Type 0
-ChainExactly = (given : Record) (n w : ℕ) (ws : List ℕ) (rec : Record) (words list : List ℕ) → freshed (fresh given n w ws) ≡ (done accepted, rec, words)
-    → (ks : List Link) → Chained (record { rec = rec; words = words; list = list }) ks → (a : ℕ) → a < 2 ^ 64 → ExactlyRuns (record { rec = rec; words = words; list = list }) ks (bitAt a)
+ChainExactly =
+    (given : Record) (n w : ℕ) (ws ps : List ℕ) (s : State) → freshed (fresh given n w ws ps) ≡ (done accepted, s .rec, s .words, s .ports)
+    → (ks : List Link) → Chained s ks → (a : ℕ) → a < 2 ^ 64 → ExactlyRuns s ks (bitAt a)
 
 -- the accepted writes and asserts of a chain, by its answers
 abbrev pub writesOf : List Link → ℕ
@@ -77,5 +81,6 @@ writesOf (k ∷ ks) = acceptedWrites (k .answer) + writesOf ks
 
 -- "The entry count is at most accepted writes plus accepted asserts."
 unfoldable pub ChainCount : Type 0
-ChainCount = (given : Record) (n w : ℕ) (ws : List ℕ) (rec : Record) (words list : List ℕ) → freshed (fresh given n w ws) ≡ (done accepted, rec, words)
-    → (ks : List Link) → Chained (record { rec = rec; words = words; list = list }) ks → lastState (record { rec = rec; words = words; list = list }) ks .rec .entries ≤ writesOf ks
+ChainCount =
+    (given : Record) (n w : ℕ) (ws ps : List ℕ) (s : State) → freshed (fresh given n w ws ps) ≡ (done accepted, s .rec, s .words, s .ports)
+    → (ks : List Link) → Chained s ks → lastState s ks .rec .entries ≤ writesOf ks

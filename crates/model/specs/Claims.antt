@@ -3,16 +3,16 @@ use mathlib.Core.Path.{_≡_}
 use mathlib.Core.Logic.{_↔_}
 use mathlib.Core.Bool.{Bool, true, false}
 use mathlib.Core.List.{List, [], _∷_}
-use Prim.Native.Nat.{ℕ, zero, suc, _^_, _<_}
+use Prim.Native.Nat.{ℕ, zero, suc, _^_, _<_, _≤_}
 use lib.Dec.{T}
 use lib.ListN.{getD}
 use Rattle.conditions.specs.Stores.{Standard}
 use Rattle.conditions.specs.Value.{value}
 use Rattle.conditions.specs.Assignment.{bitAt}
-use Rattle.model.specs.Pairs.{Pair, admit}
-use Rattle.model.specs.Record.{Record, hAt, lAt}
+use Rattle.model.specs.Pairs.{Pair, admit, bit}
+use Rattle.model.specs.Record.{Record, hAt, lAt, heldWord, freshPorts}
 use Rattle.model.specs.Step.{State, Access, write, read, assert, check, Call, access, nodeCall, Answer, refused, done, Filling, fills, fillsNone, filling, Result, step, run, fresh}
-use Rattle.model.specs.Array.{Event, writes, reads, asserts, checks, nothing, Run, observed, Returns, Allowed}
+use Rattle.model.specs.Array.{Event, writes, reads, asserts, checks, nothing, Run, observed, lastMemory, Returns, Allowed}
 
 -- "A node in an accepted call's arguments stands for its value under the assignment, in the node words lent to that call."
 abbrev pub pairAt : (ℕ → Bool) → List ℕ → List ℕ → ℕ → Pair
@@ -29,7 +29,7 @@ pairs φ w ws k = pairsFrom φ w ws 0 k
 -- an accepted access as the array is fed it
 abbrev pub argument : (ℕ → Bool) → State → Access → Event
 argument φ s (write c a d) = writes (pairAt φ (s .words) c 0) (pairs φ (s .words) a (s .rec .n)) (pairs φ (s .words) d (s .rec .w))
-argument φ s (read e a out) = reads (pairAt φ (s .words) e 0) (pairs φ (s .words) a (s .rec .n))
+argument φ s (read p e a out) = reads p (pairAt φ (s .words) e 0) (pairs φ (s .words) a (s .rec .n))
 argument φ s (assert b a d) = asserts (value (s .words) φ b) (pairs φ (s .words) a (s .rec .n)) (pairs φ (s .words) d (s .rec .w))
 argument φ s (check b a d) = checks (value (s .words) φ b) (pairs φ (s .words) a (s .rec .n)) (pairs φ (s .words) d (s .rec .w))
 
@@ -57,23 +57,31 @@ May φ s [] j i b = ⊥
 May φ s (c ∷ cs) zero i b = BitMay φ (step c s .after .words) (step c s .answer) i b
 May φ s (c ∷ cs) (suc j) i b = May φ (step c s .after) cs j i b
 
+-- "after the list": bit i of the word that port p holds may be b, in record, node words and ports of a state
+abbrev pub HeldMay : (ℕ → Bool) → State → ℕ → ℕ → Bool → Type 0
+HeldMay φ t p i b = T (admit (pairAt φ (t .words) (heldWord (t .rec) (t .ports) p) i) b)
+
 -- the check condition, "in record and node words after the last call"
 abbrev pub CheckHolds : (ℕ → Bool) → State → List Call → Type 0
 CheckHolds φ s cs = T (value (run cs s .words) φ (run cs s .rec .checked))
 
--- Under one assignment: a read bit may be b exactly when some plain run returns b there, and the check condition holds exactly when every plain run
--- finds, at every check in force, a word that the check allows
+-- Under one assignment: a read bit may be b exactly when some plain run returns b there; after the list a bit of a port's word may be b exactly when some plain run
+-- has b there in that port; and the check condition holds exactly when every plain run finds, at every check in force, a word that the check allows
 pub record Exactly (s : State) (cs : List Call) (φ : ℕ → Bool) : Type 0 where
   pub bits : (j i : ℕ) → i < s .rec .w → (b : Bool)
       → May φ s cs j i b ↔ ((r : Run (s .rec .w) (events φ s cs)) × Returns (observed (s .rec .w) (events φ s cs) r j) i b)
+  pub holds : (p i : ℕ) → p < 4 → i < s .rec .w → (b : Bool)
+      → HeldMay φ (run cs s) p i b ↔ ((r : Run (s .rec .w) (events φ s cs)) × (bit (lastMemory (s .rec .w) (events φ s cs) r .ports p) i ≡ b))
   pub checking : CheckHolds φ s cs ↔ ((r : Run (s .rec .w) (events φ s cs)) (j : ℕ) → Allowed (observed (s .rec .w) (events φ s cs) r j))
 
--- a state in which lists of calls may begin: any standard store, no entries, both conditions 1, and a list of any words
+-- a state in which lists of calls may begin: any standard store, no entries, both conditions 1, a list of any words, all ports X, and w that a port has words for
 pub record Begins (s : State) : Type 0 where
   pub standard : Standard (s .words) (s .rec .count)
   pub entries : s .rec .entries ≡ 0
   pub asserted : s .rec .asserted ≡ 1
   pub checked : s .rec .checked ≡ 1
+  pub ports : s .ports ≡ freshPorts
+  pub wide : s .rec .w ≤ 16
 
 -- the whole claim, for any list of calls, refused ones and node calls included, and any 64-bit assignment
 unfoldable pub Demand3 : Type 0
@@ -81,4 +89,6 @@ Demand3 = (s : State) → Begins s → (cs : List Call) (a : ℕ) → a < 2 ^ 64
 
 -- and so "the first gets the record and node words that an accepted Fresh left, and a list of any words, for any n, w and sizes"
 unfoldable pub FromFresh : Type 0
-FromFresh = (given : Record) (n w : ℕ) (ws list : List ℕ) → fresh given n w ws .answer ≡ 0 → Begins (record { rec = fresh given n w ws .rec; words = fresh given n w ws .words; list = list })
+FromFresh =
+    (given : Record) (n w : ℕ) (ws ps list : List ℕ) → fresh given n w ws ps .answer ≡ 0
+    → Begins (record { rec = fresh given n w ws ps .rec; words = fresh given n w ws ps .words; list = list; ports = fresh given n w ws ps .ports })

@@ -3,18 +3,18 @@ use mathlib.Core.Path.{_≡_}
 use mathlib.Core.Bool.{Bool, true, false, _&&_, _||_}
 use mathlib.Core.List.{List, [], _∷_}
 use Prim.Native.Nat.{ℕ, zero, suc, _+_, _*_, _<_, _≤_}
-use lib.Dec.{eqb}
+use lib.Dec.{eqb, leb}
 use lib.ListN.{length, getD}
 use Rattle.conditions.specs.Stores.{capacityOf, Extends, clearOf}
 use Rattle.conditions.specs.declared.Store.{Store}
-use Rattle.model.specs.Record.{Record, size}
-use Rattle.model.specs.Rows.{row1, row2, row3}
-use Rattle.model.specs.Step.{State, withWords, Access, write, read, assert, check, Call, access, nodeCall, Given, place, filled, entered, kept, accepted, valued, node, Answer, refused, done, isRefused, refusal, Finish, full, short, gives, finish, step, run, fresh}
+use Rattle.model.specs.Record.{Record, size, replaced}
+use Rattle.model.specs.Rows.{row1, row2, row3, portsRow}
+use Rattle.model.specs.Step.{State, withWords, Access, write, read, assert, check, Call, access, nodeCall, Given, place, filled, entered, kept, accepted, valued, node, Answer, refused, done, isRefused, Filling, fills, fillsNone, filling, refusal, Finish, full, short, gives, finish, step, run, fresh, withPorts}
 
 -- "After 9, or 8 in an assert, all node words from the count to capacity are 0; otherwise untouched."
 abbrev pub isAssert : Call → Bool
 isAssert (access (write c a d)) = false
-isAssert (access (read e a out)) = false
+isAssert (access (read p e a out)) = false
 isAssert (access (assert b a d)) = true
 isAssert (access (check b a d)) = false
 isAssert (nodeCall c) = false
@@ -26,13 +26,16 @@ abbrev pub wordsAfter : Bool → State → List ℕ
 wordsAfter true s = clearOf (s .words) (s .rec .count)
 wordsAfter false s = s .words
 
--- "A refusal .. returns its number; record, nodes below the count, list .. are untouched." (That a refused read leaves the answer words is `answerWords`.)
+-- "A refusal .. returns its number; record, nodes below the count, list .. are untouched.", and the ports. (That a refused read leaves the answer words is `answerWords`.)
 unfoldable pub RefusalLeaves : Type 0
 RefusalLeaves = (c : Call) (s : State) (k : ℕ) → step c s .answer ≡ refused k → step c s .after ≡ withWords s (wordsAfter (clears c k) s)
 
 -- a refusal's number is one of the table's
+abbrev pub numbers : ℕ → Bool
+numbers k = leb 1 k && leb k 9 || eqb k 14
+
 unfoldable pub RefusalNumber : Type 0
-RefusalNumber = (c : Call) (s : State) (k : ℕ) → step c s .answer ≡ refused k → (1 ≤ k) × (k ≤ 9)
+RefusalNumber = (c : Call) (s : State) (k : ℕ) → step c s .answer ≡ refused k → numbers k ≡ true
 
 -- what a call that no row refuses is refused by after building: 9 where its program needs a node past capacity, 8 where it has no space for its entry; 0 is none
 abbrev pub lateRow : Finish → ℕ
@@ -55,13 +58,39 @@ NineAtCapacity = (c : Call) (s : State) → step c s .answer ≡ refused 9 → (
 -- the assert condition is an assert's alone to change, the check condition a check's
 abbrev pub isCheck : Call → Bool
 isCheck (access (write c a d)) = false
-isCheck (access (read e a out)) = false
+isCheck (access (read p e a out)) = false
 isCheck (access (assert b a d)) = false
 isCheck (access (check b a d)) = true
 isCheck (nodeCall c) = false
 
 unfoldable pub ConditionsStay : Type 0
 ConditionsStay = (c : Call) (s : State) → (isAssert c ≡ false → step c s .after .rec .asserted ≡ s .rec .asserted) × (isCheck c ≡ false → step c s .after .rec .checked ≡ s .rec .checked)
+
+-- "each port's held word is replaced by the read that uses it", and the ports are "untouched by refused calls" and by every other call
+abbrev pub heldBy : Filling → ℕ → List ℕ → List ℕ
+heldBy (fills r) p ps = replaced ps p r
+heldBy fillsNone p ps = ps
+
+abbrev pub portsAfter : Call → Answer → List ℕ → List ℕ
+portsAfter (access (write c a d)) x ps = ps
+portsAfter (access (read p e a out)) x ps = heldBy (filling x) p ps
+portsAfter (access (assert b a d)) x ps = ps
+portsAfter (access (check b a d)) x ps = ps
+portsAfter (nodeCall c) x ps = ps
+
+unfoldable pub PortsLeft : Type 0
+PortsLeft = (c : Call) (s : State) → step c s .after .ports ≡ portsAfter c (step c s .answer) (s .ports)
+
+-- No other call is lent the ports: what every other call answers, and leaves of record, node words and list, turns on no port
+abbrev pub isRead : Call → Bool
+isRead (access (write c a d)) = false
+isRead (access (read p e a out)) = true
+isRead (access (assert b a d)) = false
+isRead (access (check b a d)) = false
+isRead (nodeCall c) = false
+
+unfoldable pub PortsUnseen : Type 0
+PortsUnseen = (c : Call) (s : State) (ps : List ℕ) → isRead c ≡ false → step c (withPorts s ps) ≡ record { answer = step c s .answer; after = withPorts (step c s .after) ps }
 
 -- "Success changes no older node or entry and no word past the new count."
 pub record Extended (s t : State) : Type 0 where
@@ -76,7 +105,7 @@ pub record Extended (s t : State) : Type 0 where
 unfoldable pub SuccessLeaves : Type 0
 SuccessLeaves = (c : Call) (s : State) → isRefused (step c s .answer) ≡ false → Extended s (step c s .after)
 
--- rows 1 to 3 do not refuse
+-- rows 1 to 3 do not refuse an access that sees no ports
 pub record Valid (s : State) : Type 0 where
   pub one : row1 (s .rec) (s .words) ≡ true
   pub two : row2 (s .rec) (s .words) ≡ true
@@ -85,18 +114,30 @@ pub record Valid (s : State) : Type 0 where
 unfoldable pub StaysValid : Type 0
 StaysValid = (c : Call) (s : State) → Valid s → Valid (step c s .after)
 
+-- and row 3 does not refuse the ports to a read
+pub record PortsValid (s : State) : Type 0 where
+  pub three : portsRow (s .rec) (s .words) (s .ports) ≡ true
+  pub long : length (s .ports) ≡ 128
+
+unfoldable pub PortsStayValid : Type 0
+PortsStayValid = (c : Call) (s : State) → Valid s → PortsValid s → PortsValid (step c s .after)
+
 -- so that in a run no call meets rows 1 to 3
 unfoldable pub NoRow123 : Type 0
-NoRow123 = (cs : List Call) (c : Call) (s : State) (k : ℕ) → Valid s → step c (run cs s) .answer ≡ refused k → 4 ≤ k
+NoRow123 = (cs : List Call) (c : Call) (s : State) (k : ℕ) → Valid s → PortsValid s → step c (run cs s) .answer ≡ refused k → 4 ≤ k
 
--- "the record and node words that an accepted Fresh left, and a list of any words" are a valid state
+-- "the record and node words that an accepted Fresh left, and a list of any words", with the ports that it left, are a valid state
+abbrev pub freshState : Record → ℕ → ℕ → List ℕ → List ℕ → List ℕ → State
+freshState given n w ws ps l = record { rec = fresh given n w ws ps .rec; words = fresh given n w ws ps .words; list = l; ports = fresh given n w ws ps .ports }
+
 unfoldable pub FreshValid : Type 0
-FreshValid = (given : Record) (n w : ℕ) (ws list : List ℕ) → fresh given n w ws .answer ≡ 0 → Valid (record { rec = fresh given n w ws .rec; words = fresh given n w ws .words; list = list })
+FreshValid = (given : Record) (n w : ℕ) (ws ps l : List ℕ) → fresh given n w ws ps .answer ≡ 0 → Valid (freshState given n w ws ps l) × PortsValid (freshState given n w ws ps l)
 
 -- and so no call of a run from there meets rows 1 to 3
 unfoldable pub FreshNoRow123 : Type 0
-FreshNoRow123 = (given : Record) (n w : ℕ) (ws list : List ℕ) → fresh given n w ws .answer ≡ 0 → (cs : List Call) (c : Call) (k : ℕ)
-    → step c (run cs (record { rec = fresh given n w ws .rec; words = fresh given n w ws .words; list = list })) .answer ≡ refused k → 4 ≤ k
+FreshNoRow123 =
+    (given : Record) (n w : ℕ) (ws ps l : List ℕ) → fresh given n w ws ps .answer ≡ 0 → (cs : List Call) (c : Call) (k : ℕ)
+    → step c (run cs (freshState given n w ws ps l)) .answer ≡ refused k → 4 ≤ k
 
 -- one for an accepted write and for an accepted assert, by what it gives
 abbrev pub writeOrAssert : Given → ℕ

@@ -1,32 +1,40 @@
 -- The published run of a list of events, under one assignment: what the symbolic memory holds from call to call, and what its reads admit.
 use mathlib.Core.Path.{_≡_}
-use mathlib.Core.Bool.{Bool, true, _&&_, _||_, not}
+use mathlib.Core.Bool.{Bool, true, _&&_, _||_, not, cond}
 use mathlib.Core.List.{List, [], _∷_, _++_}
-use Prim.Native.Nat.{ℕ, zero, suc}
-use lib.Dec.{T}
+use Prim.Native.Nat.{ℕ, zero, suc, _<_}
+use lib.Dec.{T, eqb}
 use lib.ListN.{length}
-use Rattle.model.specs.Pairs.{Pair, legal, legals, admit, unique}
+use Rattle.model.specs.Pairs.{Pair, X, legal, legals, admit, unique}
 use Rattle.model.specs.Published.{Entry, entry, answer, checkHolds, control}
 use Rattle.model.specs.Array.{Event, writes, reads, asserts, checks, nothing}
 
--- the entries, oldest first, and the check condition
+-- the entries, oldest first, each port's word, and the check condition
 pub record Held : Type 0 where
   pub entries : List Entry
+  pub ports : ℕ → ℕ → Pair
   pub condition : Bool
 
--- Fresh: no entry, and the condition 1
+-- Fresh: no entry, "All ports start X", and the condition 1
 abbrev pub holdsNothing : Held
-holdsNothing = record { entries = []; condition = true }
+holdsNothing = record { entries = []; ports = λ p i. X; condition = true }
 
 abbrev pub add : Held → Entry → Held
-add s e = record { entries = s .entries ++ (e ∷ []); condition = s .condition }
+add s e = record { entries = s .entries ++ (e ∷ []); ports = s .ports; condition = s .condition }
+
+-- "each port's held word is replaced by the read that uses it"
+abbrev pub hold : Held → ℕ → (ℕ → Pair) → Held
+hold s p word = record { entries = s .entries; ports = λ q. cond (eqb q p) word (s .ports q); condition = s .condition }
+
+abbrev pub demand : Held → Bool → Held
+demand s c = record { entries = s .entries; ports = s .ports; condition = s .condition && c }
 
 -- Each accepted write and assert is entered: one that is kept would change no cell (`kept-same`).
 abbrev pub heldAfter : ℕ → ℕ → Held → Event → Held
 heldAfter n w s (writes c a d) = add s (entry c a d)
-heldAfter n w s (reads e a) = s
+heldAfter n w s (reads p e a) = hold s p (answer n (s .entries) (s .ports p) e a)
 heldAfter n w s (asserts b a d) = add s (entry (control b) a d)
-heldAfter n w s (checks b a d) = record { entries = s .entries; condition = s .condition && checkHolds n w (s .entries) b a d }
+heldAfter n w s (checks b a d) = demand s (checkHolds n w (s .entries) b a d)
 heldAfter n w s nothing = s
 
 abbrev pub heldAfterAll : ℕ → ℕ → Held → List Event → Held
@@ -36,24 +44,24 @@ heldAfterAll n w s (e ∷ es) = heldAfterAll n w (heldAfter n w s e) es
 -- bit i of what a read answers admits b; no other call answers a word
 abbrev pub NowMay : ℕ → Held → Event → ℕ → Bool → Type 0
 NowMay n s (writes c a d) i b = ⊥
-NowMay n s (reads e a) i b = T (admit (answer n (s .entries) e a i) b)
+NowMay n s (reads p e a) i b = T (admit (answer n (s .entries) (s .ports p) e a i) b)
 NowMay n s (asserts c a d) i b = ⊥
 NowMay n s (checks c a d) i b = ⊥
 NowMay n s nothing i b = ⊥
 
 -- the same of call j of the list
-abbrev pub HeldMay : ℕ → ℕ → Held → List Event → ℕ → ℕ → Bool → Type 0
-HeldMay n w s [] j i b = ⊥
-HeldMay n w s (e ∷ es) zero i b = NowMay n s e i b
-HeldMay n w s (e ∷ es) (suc j) i b = HeldMay n w (heldAfter n w s e) es j i b
+abbrev pub RunMay : ℕ → ℕ → Held → List Event → ℕ → ℕ → Bool → Type 0
+RunMay n w s [] j i b = ⊥
+RunMay n w s (e ∷ es) zero i b = NowMay n s e i b
+RunMay n w s (e ∷ es) (suc j) i b = RunMay n w (heldAfter n w s e) es j i b
 
--- What the refusals leave of an event. 4: n pairs of address, w of data. 6: no illegal pair. 7: where b holds, an assert's address has no X.
+-- What the refusals leave of an event. 4: n pairs of address, w of data. 14: no port above 3. 6: no illegal pair. 7: where b holds, an assert's address has no X.
 abbrev pub Sized : ℕ → List Pair → Type 0
 Sized k ps = T (legals ps) × (length ps ≡ k)
 
 abbrev pub Accepted : ℕ → ℕ → Event → Type 0
 Accepted n w (writes c a d) = T (legal c) × Sized n a × Sized w d
-Accepted n w (reads e a) = T (legal e) × Sized n a
+Accepted n w (reads p e a) = T (legal e) × Sized n a × (p < 4)
 Accepted n w (asserts b a d) = Sized n a × Sized w d × T (not b || unique a)
 Accepted n w (checks b a d) = Sized n a × Sized w d
 Accepted n w nothing = Unit {0}

@@ -3,11 +3,12 @@ use mathlib.Core.Path.{_≡_}
 use mathlib.Core.Bool.{Bool, true, false, cond, _&&_}
 use mathlib.Core.List.{List, [], _∷_, _++_}
 use Prim.Native.Nat.{ℕ, zero, suc, _^_, _<_}
-use lib.ListN.{getD}
+use lib.Dec.{eqb}
+use lib.ListN.{length, getD}
 use Rattle.conditions.specs.Value.{value}
 use Rattle.conditions.specs.Assignment.{bitAt}
 use Rattle.model.specs.Pairs.{Pair}
-use Rattle.model.specs.Record.{Record, entryAt, addressOf, dataOf}
+use Rattle.model.specs.Record.{Record, entryAt, addressOf, dataOf, heldWord}
 use Rattle.model.specs.Published.{Entry, entry, answer, assertHolds, checkHolds, keeps, control}
 use Rattle.model.specs.Step.{State, write, read, assert, check, access, evaluate, variable, ite, nodeCall, place, filled, entered, kept, accepted, valued, node, done, Result, isRefused, step}
 use Rattle.model.specs.Claims.{pairAt, pairs}
@@ -38,6 +39,10 @@ addressArgument φ s a = pairs φ (s .words) a (s .rec .n)
 abbrev pub wordArgument : (ℕ → Bool) → State → List ℕ → List Pair
 wordArgument φ s d = pairs φ (s .words) d (s .rec .w)
 
+-- what port p holds, under an assignment
+abbrev pub portValue : (ℕ → Bool) → State → ℕ → ℕ → Pair
+portValue φ s p i = pairAt φ (s .words) (heldWord (s .rec) (s .ports) p) i
+
 -- from s to t the published entry was put after the last, and the list is otherwise as it was: the source's InsertTail (Fig. 2)
 abbrev pub Enters : (ℕ → Bool) → State → State → Pair → List ℕ → List ℕ → Type 0
 Enters φ s t c a d = entryValues φ t ≡ entryValues φ s ++ (entry c (addressArgument φ s a) (wordArgument φ s d) ∷ [])
@@ -45,13 +50,15 @@ Enters φ s t c a d = entryValues φ t ≡ entryValues φ s ++ (entry c (address
 -- of any state s, under one assignment, each answer and what it leaves
 pub record Meant (φ : ℕ → Bool) (s : State) : Type 0 where
   pub write-enters : (c a d : List ℕ) (k : ℕ) → step (access (write c a d)) s .answer ≡ done (place k) → (k ≡ s .rec .entries) × Enters φ s (step (access (write c a d)) s .after) (pairAt φ (s .words) c 0) a d
-  pub read-fills : (e a out r : List ℕ) → step (access (read e a out)) s .answer ≡ done (filled r) → (i : ℕ) → i < s .rec .w
-      → pairAt φ (step (access (read e a out)) s .after .words) r i ≡ answer (s .rec .n) (entryValues φ s) (pairAt φ (s .words) e 0) (addressArgument φ s a) i
+  pub read-fills : (p : ℕ) (e a out r : List ℕ) → step (access (read p e a out)) s .answer ≡ done (filled r) → (i : ℕ) → i < s .rec .w
+      → pairAt φ (step (access (read p e a out)) s .after .words) r i ≡ answer (s .rec .n) (entryValues φ s) (portValue φ s p) (pairAt φ (s .words) e 0) (addressArgument φ s a) i
+  pub read-held : (p : ℕ) (e a out r : List ℕ) → step (access (read p e a out)) s .answer ≡ done (filled r) → length (s .ports) ≡ 128 → (q i : ℕ) → q < 4 → i < s .rec .w
+      → portValue φ (step (access (read p e a out)) s .after) q i ≡ cond (eqb q p) (answer (s .rec .n) (entryValues φ s) (portValue φ s p) (pairAt φ (s .words) e 0) (addressArgument φ s a)) (portValue φ s q) i
   pub assert-condition : (b : ℕ) (a d : List ℕ) → isRefused (step (access (assert b a d)) s .answer) ≡ false
       → value (step (access (assert b a d)) s .after .words) φ (step (access (assert b a d)) s .after .rec .asserted)
       ≡ (value (s .words) φ (s .rec .asserted) && assertHolds (s .rec .n) (s .rec .w) (entryValues φ s) (value (s .words) φ b) (addressArgument φ s a) (wordArgument φ s d))
   pub assert-kept : (b : ℕ) (a d : List ℕ) → step (access (assert b a d)) s .answer ≡ done kept → keeps (s .rec .n) (s .rec .w) (entryValues φ s) (value (s .words) φ b) (addressArgument φ s a) (wordArgument φ s d) ≡ true
-  pub read-stays : (e a out r : List ℕ) → step (access (read e a out)) s .answer ≡ done (filled r) → entryValues φ (step (access (read e a out)) s .after) ≡ entryValues φ s
+  pub read-stays : (p : ℕ) (e a out r : List ℕ) → step (access (read p e a out)) s .answer ≡ done (filled r) → entryValues φ (step (access (read p e a out)) s .after) ≡ entryValues φ s
   pub kept-stays : (b : ℕ) (a d : List ℕ) → step (access (assert b a d)) s .answer ≡ done kept → entryValues φ (step (access (assert b a d)) s .after) ≡ entryValues φ s
   pub check-stays : (b : ℕ) (a d : List ℕ) → step (access (check b a d)) s .answer ≡ done accepted → entryValues φ (step (access (check b a d)) s .after) ≡ entryValues φ s
   pub assert-enters : (b : ℕ) (a d : List ℕ) → step (access (assert b a d)) s .answer ≡ done entered → Enters φ s (step (access (assert b a d)) s .after) (control (value (s .words) φ b)) a d

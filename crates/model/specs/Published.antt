@@ -1,4 +1,4 @@
--- The published meaning, under one assignment: the source's write (document 000, Fig. 2), first read (Fig. 3), assert (Fig. 6) and check (Fig. 7) over Bools, with 01's enables and the disabled read of document 003.
+-- The published meaning, under one assignment: the source's write (document 000, Fig. 2), first read (Fig. 3), assert (Fig. 6) and check (Fig. 7) over Bools, with 01's enables and the ports of 02.
 use mathlib.Core.Bool.{Bool, true, false, _&&_, _||_, not, cond}
 use mathlib.Core.List.{List, [], _∷_, _++_}
 use Prim.Native.Nat.{ℕ, zero, suc}
@@ -54,9 +54,12 @@ look n es a i = record {
   l = anywhere n (λ x. admits a x && (cell es x i) .l);
 }
 
--- document 003's disabled read gives all X: "Read(e,a): Look(a), then E = And(e.h, Not e.l), then each half Ite(E, r, 1)"
-abbrev pub answer : ℕ → List Entry → Pair → List Pair → ℕ → Pair
-answer n es e a i = cond (certain e) (look n es a i) X
+-- a bit of a read, of its enable, the look's bit and the one that its port holds: "Enable 1 gives the look, enable 0 the port's last word, X the bitwise union of both."
+abbrev pub holding : Pair → Pair → Pair → Pair
+holding e r p = cond (certain e) r (cond (e .h) (union r p) p)
+
+abbrev pub answer : ℕ → List Entry → (ℕ → Pair) → Pair → List Pair → ℕ → Pair
+answer n es held e a i = holding e (look n es a i) (held i)
 
 -- "C = 1, and for each bit C = And(C, Or(Not r.h, d.h)), then with l": every bit of the first is inside the second's
 abbrev pub inside : ℕ → (ℕ → Pair) → (ℕ → Pair) → Bool

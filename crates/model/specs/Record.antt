@@ -2,7 +2,7 @@
 use mathlib.Core.Bool.{Bool}
 use mathlib.Core.List.{List, [], _∷_, _++_}
 use Prim.Native.Nat.{ℕ, _+_, _*_, _-_, _/_, min}
-use lib.ListN.{length, getD, take, drop}
+use lib.ListN.{length, getD, take, drop, replicate}
 
 -- "The record has n, w, node count, entry count, assert condition, check condition."
 pub record Record : Type 0 where
@@ -67,3 +67,18 @@ listCapacity r l = min (length l / size r) 4096
 -- "Append h,s,a,d.": the list with this entry at the place after the last
 unfoldable pub appended : Record → List ℕ → ℕ → ℕ → List ℕ → List ℕ → List ℕ
 appended r l h s a d = take (r .entries * size r) l ++ ((h ∷ s ∷ (a ++ d)) ++ drop (r .entries * size r + size r) l)
+
+-- 02, 'Ports that hold': "Four read ports, 0 to 3", 32 words each; port p's held word is the first 2w of its own
+abbrev pub portAt : ℕ → ℕ
+portAt p = p * 32
+
+abbrev pub heldWord : Record → List ℕ → ℕ → List ℕ
+heldWord r ps p = part ps (portAt p) (portAt p + dataWords r)
+
+-- "each port's held word is replaced by the read that uses it"
+unfoldable pub replaced : List ℕ → ℕ → List ℕ → List ℕ
+replaced ps p word = take (portAt p) ps ++ (word ++ drop (portAt p + length word) ps)
+
+-- "All ports start X"
+abbrev pub freshPorts : List ℕ
+freshPorts = replicate 128 1

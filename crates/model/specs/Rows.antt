@@ -1,4 +1,4 @@
--- 01, 'Turned down': rows 1 to 7 of the table, and 8 in a write. The first test that fails refuses, by its number; 0 is none.
+-- 01, 'Turned down': rows 1 to 7 of the table, 8 in a write, and 02's 14 in a read. The first test that fails refuses, by its number; 0 is none.
 use mathlib.Core.Bool.{Bool, true, false, cond, not, _&&_}
 use mathlib.Core.List.{List, [], _∷_}
 use Prim.Native.Nat.{ℕ, _+_, _*_}
@@ -8,7 +8,7 @@ use Rattle.nodes.specs.Search.{every}
 use Rattle.conditions.specs.Stores.{isStandard}
 use Rattle.conditions.specs.User.{isUser}
 use Rattle.conditions.specs.Meet.{neither, together}
-use Rattle.model.specs.Record.{Record, hAt, lAt, addressWords, cellWords, dataWords, size, listCapacity}
+use Rattle.model.specs.Record.{Record, hAt, lAt, addressWords, cellWords, dataWords, size, listCapacity, portAt}
 
 -- a row's number, and its test
 abbrev pub Row : Type 0
@@ -65,13 +65,19 @@ module _ (r : Record) (w : List ℕ) where
       ∷ (8, row8 l)
       ∷ [])
 
-  abbrev pub readRows : List ℕ → List ℕ → List ℕ → List ℕ → List Row
-  readRows l e a out =
-      memoryRows l
-      ((4, eqb (length e) 2 && eqb (length a) (addressWords r) && eqb (length out) (dataWords r))
+  -- 02: "A held word that 5 would refuse meets 3": the words that the four ports hold
+  unfoldable pub portsRow : List ℕ → Bool
+  portsRow ps = every (λ p. every (λ i. isUser w (r .count) (getD ps (portAt p + i) 0)) 0 (dataWords r)) 0 4
+
+  -- "14, port above 3, tested after 4"
+  abbrev pub readRows : List ℕ → List ℕ → ℕ → List ℕ → List ℕ → List ℕ → List Row
+  readRows l ps p e a out =
+      (1, row1) ∷ (2, row2) ∷ (3, row3 l && portsRow ps)
+      ∷ (4, eqb (length e) 2 && eqb (length a) (addressWords r) && eqb (length out) (dataWords r))
+      ∷ (14, leb p 3)
       ∷ (5, users e && users a)
       ∷ (6, legalPairs e 1 && legalPairs a (r .n))
-      ∷ [])
+      ∷ []
 
   abbrev pub checkRows : List ℕ → ℕ → List ℕ → List ℕ → List Row
   checkRows l b a d =

@@ -44,29 +44,31 @@ pub record Ruling : Type 0 where
 abbrev pub ruling : ℕ → List Call → Call → Expected → Ruling
 ruling w cs c e = record { w = w; before = cs; last = c; expected = e }
 
--- "n=1, w=1, enables 1 unless named"
+-- "n=1, w=1, enables 1 unless named"; reads at port 0
 unfoldable pub rulings : List Ruling
 rulings =
     -- "R1 nothing, read 0: X."
-    ruling 1 [] (access (read one nought lent)) (reading unknown)
+    ruling 1 [] (access (read 0 one nought lent)) (reading unknown)
     -- "R2 1@0, read 0: 1."
-    ∷ ruling 1 (one at nought ∷ []) (access (read one nought lent)) (reading one)
+    ∷ ruling 1 (one at nought ∷ []) (access (read 0 one nought lent)) (reading one)
     -- "R3 1@0, read 1: X."
-    ∷ ruling 1 (one at nought ∷ []) (access (read one one lent)) (reading unknown)
+    ∷ ruling 1 (one at nought ∷ []) (access (read 0 one one lent)) (reading unknown)
     -- "R4 1@0 with enable X, read 0: X."
-    ∷ ruling 1 (access (write unknown nought one) ∷ []) (access (read one nought lent)) (reading unknown)
+    ∷ ruling 1 (access (write unknown nought one) ∷ []) (access (read 0 one nought lent)) (reading unknown)
     -- "R5 1@0, again with enable X: 1."
-    ∷ ruling 1 (one at nought ∷ access (write unknown nought one) ∷ []) (access (read one nought lent)) (reading one)
+    ∷ ruling 1 (one at nought ∷ access (write unknown nought one) ∷ []) (access (read 0 one nought lent)) (reading one)
     -- "R6 1@0, 1@1, read X: 1."
-    ∷ ruling 1 (one at nought ∷ one at one ∷ []) (access (read one unknown lent)) (reading one)
+    ∷ ruling 1 (one at nought ∷ one at one ∷ []) (access (read 0 one unknown lent)) (reading one)
     -- "R7 1@0, 0@1, read X: X."
-    ∷ ruling 1 (one at nought ∷ nought at one ∷ []) (access (read one unknown lent)) (reading unknown)
+    ∷ ruling 1 (one at nought ∷ nought at one ∷ []) (access (read 0 one unknown lent)) (reading unknown)
     -- "R8 1@0, 1@1, 0@X, read 0: X."
-    ∷ ruling 1 (one at nought ∷ one at one ∷ nought at unknown ∷ []) (access (read one nought lent)) (reading unknown)
+    ∷ ruling 1 (one at nought ∷ one at one ∷ nought at unknown ∷ []) (access (read 0 one nought lent)) (reading unknown)
     -- "R9 1@0 with enable 0, read 0: X."
-    ∷ ruling 1 (access (write nought nought one) ∷ []) (access (read one nought lent)) (reading unknown)
-    -- "R10 1@0, read 0 with enable X: X."
-    ∷ ruling 1 (one at nought ∷ []) (access (read unknown nought lent)) (reading unknown)
+    ∷ ruling 1 (access (write nought nought one) ∷ []) (access (read 0 one nought lent)) (reading unknown)
+    -- "R10 1@0, read 0 with enable X: X.", on a fresh port
+    ∷ ruling 1 (one at nought ∷ []) (access (read 0 unknown nought lent)) (reading unknown)
+    -- "R10 becomes 1 if the same port's last word was 1"
+    ∷ ruling 1 (one at nought ∷ access (read 0 one nought lent) ∷ []) (access (read 0 unknown nought lent)) (reading one)
     -- "R11 w=2, 01@0, 10@1: check X against XX holds,"
     ∷ ruling 2 (bits nought one at nought ∷ bits one nought at one ∷ []) (access (check 1 unknown (bits unknown unknown))) (leaving 1)
     -- "against 01 not."
@@ -76,8 +78,8 @@ rulings =
 -- a memory that Fresh left, with n = 1, room for 64 nodes, and 64 list words
 unfoldable pub start : ℕ → State
 start w =
-    let f = fresh (freshRecord 1 w) 1 w (replicate 192 0) in
-    record { rec = f .rec; words = f .words; list = replicate 64 0 }
+    let f = fresh (freshRecord 1 w) 1 w (replicate 192 0) (replicate 128 0) in
+    record { rec = f .rec; words = f .words; list = replicate 64 0; ports = f .ports }
 
 -- what the last call of a line gives, after the calls before it
 unfoldable pub result : Ruling → Result

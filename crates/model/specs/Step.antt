@@ -1,4 +1,4 @@
--- The calls: what each answers, and what it leaves of record, node words and list.
+-- The calls: what each answers, and what it leaves of record, node words, list and ports.
 use mathlib.Core.Bool.{Bool, true, false, cond}
 use mathlib.Core.List.{List, [], _∷_}
 use Prim.Native.Nat.{ℕ, zero, suc, _+_}
@@ -11,30 +11,34 @@ use Rattle.conditions.specs.Make.{Variable}
 use Rattle.conditions.specs.Ite.{Ite}
 use Rattle.conditions.specs.Value.{value}
 use Rattle.conditions.specs.Assignment.{bitAt}
-use Rattle.model.specs.Record.{Record, withCount, withEntries, withAsserted, withChecked, appended}
+use Rattle.model.specs.Record.{Record, withCount, withEntries, withAsserted, withChecked, appended, heldWord, replaced, freshPorts}
 use Rattle.model.specs.Access.{Marks, Write, Read, AssertBuilt, Assert, Check}
 use Rattle.model.specs.Rows.{firstRow, row1, row8, writeRows, readRows, assertRows, checkRows, evaluateRows, variableRows, iteRows}
 
--- "Record, node words and list go from call to call as the last one left them"
+-- "Record, node words and list go from call to call as the last one left them"; "the ports go from call to call as the list does"
 pub record State : Type 0 where
   pub rec : Record
   pub words : List ℕ
   pub list : List ℕ
+  pub ports : List ℕ
 
--- the state with another record, other node words, another list
+-- the state with another record, other node words, another list, other ports
 abbrev pub withRecord : State → Record → State
-withRecord s r = record { rec = r; words = s .words; list = s .list }
+withRecord s r = record { rec = r; words = s .words; list = s .list; ports = s .ports }
 
 abbrev pub withWords : State → List ℕ → State
-withWords s w = record { rec = s .rec; words = w; list = s .list }
+withWords s w = record { rec = s .rec; words = w; list = s .list; ports = s .ports }
 
 abbrev pub withList : State → List ℕ → State
-withList s l = record { rec = s .rec; words = s .words; list = l }
+withList s l = record { rec = s .rec; words = s .words; list = l; ports = s .ports }
 
--- an access and what it is lent beside the state: words of any number; the last of a read's are those that it fills
+abbrev pub withPorts : State → List ℕ → State
+withPorts s ps = record { rec = s .rec; words = s .words; list = s .list; ports = ps }
+
+-- an access and what it is told and lent beside the state: words of any number; a read is told its port, and its last words are those that it fills
 pub data Access : Type 0 where
   write : List ℕ → List ℕ → List ℕ → Access
-  read : List ℕ → List ℕ → List ℕ → Access
+  read : ℕ → List ℕ → List ℕ → List ℕ → Access
   assert : ℕ → List ℕ → List ℕ → Access
   check : ℕ → List ℕ → List ℕ → Access
 
@@ -101,7 +105,7 @@ pub record Result : Type 0 where
 -- the first row that refuses a call, in the order in which its rows are listed, or 0. An assert's 8 and every 9 are met later, where they are built
 abbrev pub accessRefusal : Access → State → ℕ
 accessRefusal (write c a d) s = firstRow (writeRows (s .rec) (s .words) (s .list) c a d)
-accessRefusal (read e a out) s = firstRow (readRows (s .rec) (s .words) (s .list) e a out)
+accessRefusal (read p e a out) s = firstRow (readRows (s .rec) (s .words) (s .list) (s .ports) p e a out)
 accessRefusal (assert b a d) s = firstRow (assertRows (s .rec) (s .words) (s .list) b a d)
 accessRefusal (check b a d) s = firstRow (checkRows (s .rec) (s .words) (s .list) b a d)
 
@@ -159,6 +163,10 @@ abbrev pub withNew : State → List NewEntry → State
 withNew s [] = s
 withNew s (e ∷ es) = withNew (withEntry s (e .marks) (e .address) (e .word)) es
 
+-- another word in a port
+abbrev pub withHeld : State → ℕ → List ℕ → State
+withHeld s p word = withPorts s (replaced (s .ports) p word)
+
 -- with another assert condition, another check condition
 abbrev pub withAssertCondition : State → ℕ → State
 withAssertCondition s v = withRecord s (withAsserted (s .rec) v)
@@ -181,7 +189,7 @@ enter s b a d q w c =
 -- a call that no row refuses: its program, and what it gives and leaves
 unfoldable pub finishAccess : Access → State → Finish
 finishAccess (write c a d) s = unlessFull (Write (s .rec .n) (getD c 0 0) (getD c 1 0) a (s .words) (begin (s .rec))) (λ m w k. gives (place (s .rec .entries)) (withNew (grown s w k) (record { marks = m; address = a; word = d } ∷ [])))
-finishAccess (read e a out) s = unlessFull (Read (s .rec) (s .list) (getD e 0 0) (getD e 1 0) a (s .words) (begin (s .rec))) (λ r w k. gives (filled r) (grown s w k))
+finishAccess (read p e a out) s = unlessFull (Read (s .rec) (s .list) (heldWord (s .rec) (s .ports) p) (getD e 0 0) (getD e 1 0) a (s .words) (begin (s .rec))) (λ r w k. gives (filled r) (withHeld (grown s w k) p r))
 finishAccess (assert b a d) s = unlessFull (assertFirst b a d s) (enter s b a d)
 finishAccess (check b a d) s = unlessFull (Check (s .rec) (s .list) b a d (s .words) (begin (s .rec))) (λ v w k. gives accepted (withCheckCondition (grown s w k) v))
 
@@ -206,11 +214,12 @@ unfoldable pub run : List Call → State → State
 run [] s = s
 run (c ∷ cs) s = run cs (step c s .after)
 
--- "Fresh: counts 2 and 0, both conditions 1, and the two terminals written." "Fresh meets only 1 and a store below 6 words (2)."
+-- "Fresh: counts 2 and 0, both conditions 1, and the two terminals written." "Fresh meets only 1 and a store below 6 words (2)." "All ports start X"
 pub record Fresh : Type 0 where
   pub answer : ℕ
   pub rec : Record
   pub words : List ℕ
+  pub ports : List ℕ
 
 abbrev pub freshRecord : ℕ → ℕ → Record
 freshRecord n w = record { n = n; w = w; count = 2; entries = 0; asserted = 1; checked = 1 }
@@ -218,10 +227,10 @@ freshRecord n w = record { n = n; w = w; count = 2; entries = 0; asserted = 1; c
 abbrev pub freshRows : ℕ → ℕ → List ℕ → ℕ
 freshRows n w ws = firstRow ((1, row1 (freshRecord n w) ws) ∷ (2, leb 6 (length ws)) ∷ [])
 
-abbrev pub freshUnless : ℕ → Record → Record → List ℕ → Fresh
-freshUnless zero given r ws = record { answer = 0; rec = r; words = withTerminals ws }
-freshUnless (suc k) given r ws = record { answer = suc k; rec = given; words = ws }
+abbrev pub freshUnless : ℕ → Record → Record → List ℕ → List ℕ → Fresh
+freshUnless zero given r ws ps = record { answer = 0; rec = r; words = withTerminals ws; ports = freshPorts }
+freshUnless (suc k) given r ws ps = record { answer = suc k; rec = given; words = ws; ports = ps }
 
 -- a refused Fresh gives back the record that it was given
-unfoldable pub fresh : Record → ℕ → ℕ → List ℕ → Fresh
-fresh given n w ws = freshUnless (freshRows n w ws) given (freshRecord n w) ws
+unfoldable pub fresh : Record → ℕ → ℕ → List ℕ → List ℕ → Fresh
+fresh given n w ws ps = freshUnless (freshRows n w ws) given (freshRecord n w) ws ps

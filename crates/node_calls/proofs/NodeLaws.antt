@@ -15,16 +15,16 @@ use Rattle.rows.proofs.CallLaws.{first-refuses, store-holds}
 use Rattle.node_calls.specs.Contract.{numbered, freshed}
 
 -- Fresh by its row
-fresh-unless : (k : ℕ) (g r : model.Record) (w : List ℕ) → (k ≡ 0 → ⊥) → freshed (freshUnless k g r w) ≡ (numbered k, g, w)
-fresh-unless zero g r w n = absurd (n refl)
-fresh-unless (suc k) g r w n = refl
+fresh-unless : (k : ℕ) (g r : model.Record) (w ps : List ℕ) → (k ≡ 0 → ⊥) → freshed (freshUnless k g r w ps) ≡ (numbered k, g, w, ps)
+fresh-unless zero g r w ps n = absurd (n refl)
+fresh-unless (suc k) g r w ps n = refl
 
-module _ (g : model.Record) (n w : ℕ) (ws : List ℕ) {k : ℕ} (e : k ≡ freshRows n w ws) where
-  pub fresh-turned : (k ≡ 0 → ⊥) → freshed (fresh g n w ws) ≡ (numbered k, g, ws)
+module _ (g : model.Record) (n w : ℕ) (ws ps : List ℕ) {k : ℕ} (e : k ≡ freshRows n w ws) where
+  pub fresh-turned : (k ≡ 0 → ⊥) → freshed (fresh g n w ws ps) ≡ (numbered k, g, ws, ps)
   unfolding fresh
-  fresh-turned z = rw (← e) (fresh-unless k g (freshRecord n w) ws z)
+  fresh-turned z = rw (← e) (fresh-unless k g (freshRecord n w) ws ps z)
 
-  pub fresh-done : k ≡ 0 → freshed (fresh g n w ws) ≡ (done accepted, freshRecord n w, withTerminals ws)
+  pub fresh-done : k ≡ 0 → freshed (fresh g n w ws ps) ≡ (done accepted, freshRecord n w, withTerminals ws, model.freshPorts)
   unfolding fresh
   fresh-done z = rw (← e, z)
 
@@ -35,7 +35,7 @@ module _ (g : model.Record) (n w : ℕ) (ws : List ℕ) {k : ℕ} (e : k ≡ fre
 module _ (r : model.Record) (w : List ℕ) where
   -- they are lent no list
   abbrev s : State
-  s = record { rec = r; words = w; list = [] }
+  s = record { rec = r; words = w; list = []; ports = [] }
 
   pub variable-holds : (v : ℕ) {k : ℕ} → k ≡ firstRow (variableRows r w v) → k ≡ 0 → Standard w (r .count) × (v < 64)
   variable-holds v e z = let F = variable-facts s v (sym e ∙ z) in (F .standard, omega (arith, F .named .1))

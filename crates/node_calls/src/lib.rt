@@ -67,15 +67,16 @@ fn evaluate_row(r: Fields, words: &[u32], f: u32) -> u32
     if f < r.count { 0 } else { 5 }
 }
 
-// Fresh: a memory with no entries and both conditions 1, over node words that hold the two terminals.
-pub fn fresh(r: Fields, words: &mut [u32], n: u32, w: u32) -> Done
-    ensures { λ x. ⌜ freshed (fresh (recordOf r) n w (now (words .entry))) ≡ (numbered (x .row), recordOf (x .after), now (words .exit)) ⌝ }
+// Fresh: a memory with no entries and both conditions 1, over node words that hold the two terminals, and ports that hold X.
+pub fn fresh(r: Fields, words: &mut [u32], ports: &mut [u32; 128], n: u32, w: u32) -> Done
+    ensures { λ x. ⌜ freshed (fresh (recordOf r) n w (now (words .entry)) (now (ports .entry))) ≡ (numbered (x .row), recordOf (x .after), now (words .exit), now (ports .exit)) ⌝ }
 {
     let k = fresh_row(words, n, w);
     if k != 0 {
         return Done { after: r, row: k };
     }
     conditions::store_terminals(words);
+    ports::make_fresh(ports);
     let after = Fields {
         n: n,
         w: w,

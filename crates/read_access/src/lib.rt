@@ -5,8 +5,8 @@ ghost use lib.ListN.{length};
 ghost use Rattle.conditions.specs.Contract.{Sound};
 ghost use Rattle.model.specs.Rows.{firstRow, readRows};
 ghost use Rattle.model.specs.Step.{filled, begin, read, access, refusal};
-ghost use Rattle.model.specs.Frames.{Valid};
-ghost use Rattle.rows.specs.Contract.{recordOf, stateOf, unlessRefused};
+ghost use Rattle.model.specs.Frames.{Valid, PortsValid};
+ghost use Rattle.rows.specs.Contract.{recordOf, portedOf, unlessRefused};
 ghost use Rattle.read_access.specs.Contract.{Reads, ReadsOn};
 use access::ControlNode;
 use access::ControlPair;
@@ -14,18 +14,23 @@ use conditions::Table;
 use rows::Done;
 use rows::Fields;
 
-// The row that refuses a read of a valid memory, or 0. A read has no data.
+// The row that refuses a read of a valid memory with valid ports, or 0. A read has no data.
 fn read_row(
     r: Fields,
     words: &[u32],
     list: &[u32],
+    ports: &[u32; 128],
+    port: u32,
     enable: &[u32],
     address: &[u32],
     answer: &[u32],
 ) -> u32
-    requires { ⌜ Valid (stateOf r (now words) (now list)) × (length (now enable) ≡ 2) × (length (now address) ≡ 2 * r .n) × (length (now answer) ≡ 2 * r .w) ⌝ }
-    ensures { λ x. ⌜ x ≡ firstRow (readRows (recordOf r) (now (words .entry)) (now (list .entry)) (now (enable .entry)) (now (address .entry)) (now (answer .entry))) ⌝ }
+    requires { ⌜ Valid (portedOf r (now words) (now list) (now ports)) × PortsValid (portedOf r (now words) (now list) (now ports)) × (length (now enable) ≡ 2) × (length (now address) ≡ 2 * r .n) × (length (now answer) ≡ 2 * r .w) ⌝ }
+    ensures { λ x. ⌜ x ≡ firstRow (readRows (recordOf r) (now (words .entry)) (now (list .entry)) (now (ports .entry)) port (now (enable .entry)) (now (address .entry)) (now (answer .entry))) ⌝ }
 {
+    if 3 < port {
+        return 14;
+    }
     r.argument_row(words, enable, 1, address, &address[..0], 0)
 }
 
@@ -35,13 +40,15 @@ fn read_into(
     words: &mut [u32],
     list: &[u32],
     table: &mut Table,
+    ports: &mut [u32; 128],
+    port: usize,
     enable: &[u32],
     address: &[u32],
     answer: &mut [u32],
     word: &mut [u32],
 ) -> Done
-    requires { ⌜ (refusal (access (read (now enable) (now address) (now answer))) (stateOf r (now words) (now list)) ≡ 0) × Sound (now words) (now table) (begin (recordOf r)) × (length (now word) ≡ 2 * r .w) ⌝ }
-    ensures { λ x. ⌜ ReadsOn (stateOf r (now (words .entry)) (now (list .entry))) (now (enable .entry)) (now (address .entry)) (now (answer .entry)) (stateOf (x .after) (now (words .exit)) (now (list .entry))) (unlessRefused (x .row) (filled (now (answer .exit)))) (now (answer .exit)) (now (table .exit)) ⌝ }
+    requires { ⌜ (refusal (access (read port (now enable) (now address) (now answer))) (portedOf r (now words) (now list) (now ports)) ≡ 0) × Sound (now words) (now table) (begin (recordOf r)) × (length (now word) ≡ 2 * r .w) × (length (now ports) ≡ 128) ⌝ }
+    ensures { λ x. ⌜ ReadsOn (portedOf r (now (words .entry)) (now (list .entry)) (now (ports .entry))) port (now (enable .entry)) (now (address .entry)) (now (answer .entry)) (portedOf (x .after) (now (words .exit)) (now (list .entry)) (now (ports .exit))) (unlessRefused (x .row) (filled (now (answer .exit)))) (now (answer .exit)) (now (table .exit)) ⌝ }
 {
     let c = ControlPair {
         h: ControlNode(enable[0]),
@@ -51,30 +58,48 @@ fn read_into(
     let w = r.w as usize;
     let entries = r.entries as usize;
     let s = r.begin();
-    let u = access::read_word(words, table, s, n, w, entries, list, c, address, word);
+    let all = &ports[..];
+    let at = port * 32;
+    let end = at + 2 * w;
+    let u = access::read_word(
+        words,
+        table,
+        s,
+        n,
+        w,
+        entries,
+        list,
+        c,
+        address,
+        &all[at..end],
+        word,
+    );
     if rows::clear_where(words, r.count, u.full) {
         return Done { after: r, row: 9 };
     }
     rows::copy(answer, 0, word);
+    ports::replace_held(ports, port, word);
     let mut after = r;
     after.count = u.count;
     Done { after, row: 0 }
 }
 
-// A read of a valid memory: rows 5 to 9, and the word.
+// A read of a valid memory with valid ports: rows 14 and 5 to 9, and the word, which its port then holds.
 pub fn read_on(
     r: Fields,
     words: &mut [u32],
     list: &[u32],
     table: &mut Table,
+    ports: &mut [u32; 128],
+    port: u32,
     enable: &[u32],
     address: &[u32],
     answer: &mut [u32],
 ) -> Done
-    requires { ⌜ Valid (stateOf r (now words) (now list)) × Sound (now words) (now table) (begin (recordOf r)) × (length (now enable) ≡ 2) × (length (now address) ≡ 2 * r .n) × (length (now answer) ≡ 2 * r .w) ⌝ }
-    ensures { λ x. ⌜ ReadsOn (stateOf r (now (words .entry)) (now (list .entry))) (now (enable .entry)) (now (address .entry)) (now (answer .entry)) (stateOf (x .after) (now (words .exit)) (now (list .entry))) (unlessRefused (x .row) (filled (now (answer .exit)))) (now (answer .exit)) (now (table .exit)) ⌝ }
+    requires { ⌜ Valid (portedOf r (now words) (now list) (now ports)) × PortsValid (portedOf r (now words) (now list) (now ports)) × Sound (now words) (now table) (begin (recordOf r)) × (length (now enable) ≡ 2) × (length (now address) ≡ 2 * r .n) × (length (now answer) ≡ 2 * r .w) ⌝ }
+    ensures { λ x. ⌜ ReadsOn (portedOf r (now (words .entry)) (now (list .entry)) (now (ports .entry))) port (now (enable .entry)) (now (address .entry)) (now (answer .entry)) (portedOf (x .after) (now (words .exit)) (now (list .entry)) (now (ports .exit))) (unlessRefused (x .row) (filled (now (answer .exit)))) (now (answer .exit)) (now (table .exit)) ⌝ }
 {
-    let k = read_row(r, words, list, enable, address, answer);
+    let k = read_row(r, words, list, ports, port, enable, address, answer);
     if k != 0 {
         return Done { after: r, row: k };
     }
@@ -85,6 +110,8 @@ pub fn read_on(
         words,
         list,
         table,
+        ports,
+        port as usize,
         enable,
         address,
         answer,
@@ -92,16 +119,18 @@ pub fn read_on(
     )
 }
 
-// Read(e, a).
+// Read(e, a), at a port.
 pub fn read(
     r: Fields,
     words: &mut [u32],
     list: &[u32],
+    ports: &mut [u32; 128],
+    port: u32,
     enable: &[u32],
     address: &[u32],
     answer: &mut [u32],
 ) -> Done
-    ensures { λ x. ⌜ Reads (stateOf r (now (words .entry)) (now (list .entry))) (now (enable .entry)) (now (address .entry)) (now (answer .entry)) (stateOf (x .after) (now (words .exit)) (now (list .entry))) (unlessRefused (x .row) (filled (now (answer .exit)))) (now (answer .exit)) ⌝ }
+    ensures { λ x. ⌜ Reads (portedOf r (now (words .entry)) (now (list .entry)) (now (ports .entry))) port (now (enable .entry)) (now (address .entry)) (now (answer .entry)) (portedOf (x .after) (now (words .exit)) (now (list .entry)) (now (ports .exit))) (unlessRefused (x .row) (filled (now (answer .exit)))) (now (answer .exit)) ⌝ }
 {
     let k = r.memory_row(words, list);
     if k != 0 {
@@ -109,9 +138,23 @@ pub fn read(
     }
     let n = r.n as usize;
     let w = r.w as usize;
+    let held = &ports[..];
+    if !ports::all_name_nodes(words, r.count, held, w) {
+        return Done { after: r, row: 3 };
+    }
     if !((enable.len() == 2) & (address.len() == 2 * n) & (answer.len() == 2 * w)) {
         return Done { after: r, row: 4 };
     }
     let mut table: Table = [0; 32768];
-    read_on(r, words, list, &mut table, enable, address, answer)
+    read_on(
+        r,
+        words,
+        list,
+        &mut table,
+        ports,
+        port,
+        enable,
+        address,
+        answer,
+    )
 }

@@ -5,7 +5,7 @@ use mathlib.Core.Logic.{_⊎_, inl, inr}
 use mathlib.Core.List.{List}
 use Prim.Native.Nat.{ℕ, zero, suc, _+_, _*_, _-_, _<_, _≤_}
 use native.Mathlib.Omega.{arith}
-use lib.ListN.{length}
+use lib.ListN.{length, getD}
 use borrow.Author.Tests.{lt-ltb, le-ltb, lt-leb, le-leb, leb-true}
 use Rattle.nodes.proofs.TestLaws.{test-fails, test-holds}
 use Rattle.model.specs.Rows.{firstRow}
@@ -13,13 +13,15 @@ use Rattle.model.proofs.FactLaws.{rows-hold}
 use Rattle.reading.specs.declared.Kind.{Kind}
 use Rattle.reading.specs.declared.Access.{Access}
 use Rattle.reading.specs.declared.Access.the-variants.{Here, Refused}
-use Rattle.reading.specs.Kinds.{isKnown, sizeOf}
-use Rattle.reading.specs.Accesses.{Found, found, refused, foundOf, nodesAt, kindAt, endOf, accessRows, foundUnless, accessAt, goesOnFrom, Finds}
+use Rattle.reading.specs.Kinds.{isKnown, sizeOf, leadOf, portOf}
+use Rattle.reading.specs.Accesses.{Found, found, refused, foundOf, nodesAt, kindAt, endOf, accessRows, foundUnless, accessAt, goesOnFrom, Finds, portIn}
 use Rattle.reading.proofs.RowLaws.{rows-number}
+use Rattle.reading.proofs.KindLaws.{known-size}
 
 -- what is known of an access found at a place
-pub record Lies (file : List ℕ) (at n w : ℕ) (kind : Kind) (from : ℕ) : Type 0 where
+pub record Lies (file : List ℕ) (at n w : ℕ) (kind : Kind) (port from : ℕ) : Type 0 where
   pub kind-is : kind ≡ kindAt file at
+  pub port-is : port ≡ portIn file at
   pub known : isKnown kind ≡ true
   pub from-is : from ≡ nodesAt file at
   pub end-is : from + 2 * sizeOf kind n w ≡ endOf file at n w
@@ -41,34 +43,46 @@ module _ (file : List ℕ) (at n w : ℕ) where
     unfolding accessAt
     kind-unknown u = stays (rw (lt-ltb at (length file) h, ← e, test-fails f u))
 
-    module _ (u : not b ≡ false) {s : ℕ} (g : s ≡ sizeOf k n w) where
-      pub ends-early : length file - (at + 1) < 2 * s → Finds (record { access = Refused 10; at = at }) file at n w
+    module _ (u : not b ≡ false) {s m : ℕ} (g : s ≡ sizeOf k n w) (d : m ≡ leadOf k) where
+      pub ends-early : length file - (at + 1) < m + 2 * s → Finds (record { access = Refused 10; at = at }) file at n w
       unfolding accessAt
-      ends-early l = stays (rw (lt-ltb at (length file) h, ← e, test-holds f u, ← g, lt-leb (at + 1 + 2 * s) (length file) (omega arith)))
+      ends-early l = stays (rw (lt-ltb at (length file) h, ← e, test-holds f u, ← g, ← d, lt-leb (at + 1 + m + 2 * s) (length file) (omega arith)))
 
-      here : 2 * s ≤ length file - (at + 1) → found k (at + 1) ≡ accessAt file at n w
-      unfolding accessAt
-      here l = rw (lt-ltb at (length file) h, ← e, test-holds f u, ← g, le-leb (at + 1 + 2 * s) (length file) (omega arith))
+      module _ (l : m + 2 * s ≤ length file - (at + 1)) where
+        -- a byte stands after the kind: of a read its port
+        pub next-byte : at + 1 < length file
+        next-byte = omega (arith, known-size k n w (f-known u), g, l)
+          where
+            f-known : not b ≡ false → isKnown k ≡ true
+            f-known z = test-holds f z
 
-      pub stands : 2 * s ≤ length file - (at + 1) → Finds (record { access = Here k (at + 1); at = at + 1 + 2 * s }) file at n w
-      stands l =
-          (here l, ap (λ (i : ℕ). at + 1 + 2 * i) (g ∙ ap (λ (x : Kind). sizeOf x n w) e) ∙ ap (λ (x : Found). goesOnFrom x (endOf file at n w) at) (here l))
+        here : {p q : ℕ} → p ≡ portOf k (getD file (at + 1) 0) → q ≡ at + 1 + m → found k p q ≡ accessAt file at n w
+        unfolding accessAt
+        here pe qe = rw (lt-ltb at (length file) h, ← e, test-holds f u, ← g, ← d, le-leb (at + 1 + m + 2 * s) (length file) (omega arith), pe, qe)
 
-  pub access-lies : {kind : Kind} {from : ℕ} → found kind from ≡ accessAt file at n w → Lies file at n w kind from
+        pub stands : {p q : ℕ} → p ≡ portOf k (getD file (at + 1) 0) → q ≡ at + 1 + m → Finds (record { access = Here k p q; at = at + 1 + (m + 2 * s) }) file at n w
+        stands pe qe =
+            let z : at + 1 + (m + 2 * s) ≡ at + 1 + m + 2 * s = omega arith in
+            let t : at + 1 + m + 2 * s ≡ endOf file at n w = rw (← e, ← g, ← d) refl in
+            (here pe qe, z ∙ t ∙ ap (λ (x : Found). goesOnFrom x (endOf file at n w) at) (here pe qe))
+
+  pub access-lies : {kind : Kind} {port from : ℕ} → found kind port from ≡ accessAt file at n w → Lies file at n w kind port from
   unfolding accessAt
-  access-lies {kind} {from} e = go (firstRow (accessRows file at n w)) refl e
+  access-lies {kind} {port} {from} e = go (firstRow (accessRows file at n w)) refl e
     where
       k : Kind
       k = kindAt file at
 
-      go : (r : ℕ) → firstRow (accessRows file at n w) ≡ r → found kind from ≡ foundUnless r (found k (nodesAt file at)) → Lies file at n w kind from
+      go : (r : ℕ) → firstRow (accessRows file at n w) ≡ r → found kind port from ≡ foundUnless r (found k (portIn file at) (nodesAt file at)) → Lies file at n w kind port from
       go zero q e =
           let Q = rows-hold (accessRows file at n w) refl q in
           let i : kind ≡ k = cc in
+          let p : port ≡ portIn file at = cc in
           let f : from ≡ nodesAt file at = cc in
           let z : sizeOf kind n w ≡ sizeOf k n w = ap (λ (x : Kind). sizeOf x n w) i in
           record {
             kind-is = i;
+            port-is = p;
             known = ap isKnown i ∙ Q .1 .0;
             from-is = f;
             end-is = omega arith;
@@ -78,5 +92,5 @@ module _ (file : List ℕ) (at n w : ℕ) where
       go (suc r) q e = let z : _≡_ {A = ℕ} 0 1 = cc in absurd (omega arith)
 
   -- the same of the function's answer
-  pub access-here : {r : Access} {kind : Kind} {from : ℕ} → r ≡ Here kind from → foundOf r ≡ accessAt file at n w → Lies file at n w kind from
+  pub access-here : {r : Access} {kind : Kind} {port from : ℕ} → r ≡ Here kind port from → foundOf r ≡ accessAt file at n w → Lies file at n w kind port from
   access-here e f = access-lies (ap foundOf (sym e) ∙ f)

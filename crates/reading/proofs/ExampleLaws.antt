@@ -1,4 +1,4 @@
--- 01's file, and the table's small inputs of the rows that a reading can meet.
+-- 01's file in the form of 02, and the table's small inputs of the rows that a reading can meet.
 use mathlib.Core.Path.{_≡_, refl}
 use mathlib.Core.List.{List, [], _∷_}
 use Prim.Native.Nat.{ℕ}
@@ -9,7 +9,7 @@ use Rattle.nodes.specs.Standard.{counted, terminals, childFits, shaped, lowest,
 use Rattle.model.specs.Rows.{row1}
 use Rattle.reading.specs.declared.Kind.the-variants.{Write, Read, Check}
 use Rattle.reading.specs.Bytes.{numberAt, numbersAt}
-use Rattle.reading.specs.Kinds.{kindOf, sizeOf}
+use Rattle.reading.specs.Kinds.{kindOf, sizeOf, leadOf, portOf}
 use Rattle.reading.specs.Accesses as accesses
 use Rattle.reading.specs.Accesses.{accessAt, found, goesOn}
 use Rattle.reading.specs.Sections.{withNodes, sections, ready, refused}
@@ -18,7 +18,7 @@ abbrev pub example : List ℕ
 example =
     1 ∷ 1 ∷ 2 ∷ 0 ∷ 8 ∷ 0 ∷ 0 ∷ 1 ∷ 0 ∷ 8 ∷ 1 ∷ 0 ∷ 0 ∷ 0 ∷ 3 ∷ 0
     ∷ 1 ∷ 1 ∷ 0 ∷ 0 ∷ 0 ∷ 2 ∷ 0 ∷ 3 ∷ 0 ∷ 1 ∷ 0 ∷ 0 ∷ 0
-    ∷ 2 ∷ 1 ∷ 0 ∷ 0 ∷ 0 ∷ 0 ∷ 0 ∷ 1 ∷ 0
+    ∷ 2 ∷ 0 ∷ 1 ∷ 0 ∷ 0 ∷ 0 ∷ 0 ∷ 0 ∷ 1 ∷ 0
     ∷ 4 ∷ 1 ∷ 0 ∷ 0 ∷ 0 ∷ 1 ∷ 0 ∷ 1 ∷ 0 ∷ 0 ∷ 0
     ∷ []
 
@@ -27,21 +27,21 @@ example-sections : sections example (replicate 14 7) ≡ (64 ∷ 0 ∷ 0 ∷ 64 
 unfolding sections withNodes numberAt row1 counted isStandard terminals hasWords shaped childFits first lowest seek every
 example-sections = refl
 
-example-write : (accessAt example 16 1 1 ≡ found Write 17) × (numbersAt example 17 6 ≡ 1 ∷ 0 ∷ 2 ∷ 3 ∷ 1 ∷ 0 ∷ [])
-unfolding accessAt kindOf sizeOf numbersAt numberAt
+example-write : (accessAt example 16 1 1 ≡ found Write 0 17) × (numbersAt example 17 6 ≡ 1 ∷ 0 ∷ 2 ∷ 3 ∷ 1 ∷ 0 ∷ [])
+unfolding accessAt kindOf sizeOf leadOf portOf numbersAt numberAt
 example-write = (refl, refl)
 
-example-read : (accessAt example 29 1 1 ≡ found Read 30) × (numbersAt example 30 4 ≡ 1 ∷ 0 ∷ 0 ∷ 1 ∷ [])
-unfolding accessAt kindOf sizeOf numbersAt numberAt
+example-read : (accessAt example 29 1 1 ≡ found Read 0 31) × (numbersAt example 31 4 ≡ 1 ∷ 0 ∷ 0 ∷ 1 ∷ [])
+unfolding accessAt kindOf sizeOf leadOf portOf numbersAt numberAt
 example-read = (refl, refl)
 
-example-check : (accessAt example 38 1 1 ≡ found Check 39) × (numbersAt example 39 5 ≡ 1 ∷ 0 ∷ 1 ∷ 1 ∷ 0 ∷ [])
-unfolding accessAt kindOf sizeOf numbersAt numberAt
+example-check : (accessAt example 39 1 1 ≡ found Check 0 40) × (numbersAt example 40 5 ≡ 1 ∷ 0 ∷ 1 ∷ 1 ∷ 0 ∷ [])
+unfolding accessAt kindOf sizeOf leadOf portOf numbersAt numberAt
 example-check = (refl, refl)
 
 -- from each access the reading goes on to the next, and from the last to the file's end; where none stands it stays
-example-goes-on : (goesOn example 16 1 1 ≡ 29) × (goesOn example 29 1 1 ≡ 38) × (goesOn example 38 1 1 ≡ 49) × (goesOn example 49 1 1 ≡ 49)
-unfolding accessAt kindOf sizeOf
+example-goes-on : (goesOn example 16 1 1 ≡ 29) × (goesOn example 29 1 1 ≡ 39) × (goesOn example 39 1 1 ≡ 50) × (goesOn example 50 1 1 ≡ 50)
+unfolding accessAt kindOf sizeOf leadOf portOf
 example-goes-on = (refl, refl, refl, refl)
 
 -- row 1: n=9. Row 2: 5 words. Row 10: an empty file. Row 11: kind 0
@@ -58,7 +58,7 @@ unfolding sections
 empty-file = refl
 
 kind-zero : accessAt (0 ∷ []) 0 8 16 ≡ accesses.refused 11
-unfolding accessAt kindOf sizeOf
+unfolding accessAt kindOf sizeOf leadOf portOf
 kind-zero = refl
 
 -- "Tests follow the file". The byte of w is missing, and n=9
@@ -87,5 +87,18 @@ unfolding accessAt
 kind-missing = refl
 
 write-missing : accessAt (1 ∷ 0 ∷ []) 0 1 1 ≡ accesses.refused 10
-unfolding accessAt kindOf sizeOf
+unfolding accessAt kindOf sizeOf leadOf portOf
 write-missing = refl
+
+-- a read of whose bytes the last is missing: 10, whatever the port
+read-missing : accessAt (2 ∷ 9 ∷ 1 ∷ 0 ∷ 0 ∷ 0 ∷ 0 ∷ 0 ∷ 1 ∷ []) 0 1 1 ≡ accesses.refused 10
+unfolding accessAt kindOf sizeOf leadOf portOf
+read-missing = refl
+
+-- a read by port 3: the byte after its kind is the port, and its nodes begin after that
+abbrev by-port : List ℕ
+by-port = 2 ∷ 3 ∷ 1 ∷ 0 ∷ 0 ∷ 0 ∷ 0 ∷ 0 ∷ 1 ∷ 0 ∷ []
+
+read-by-port : (accessAt by-port 0 1 1 ≡ found Read 3 2) × (numbersAt by-port 2 4 ≡ 1 ∷ 0 ∷ 0 ∷ 1 ∷ [])
+unfolding accessAt kindOf sizeOf leadOf portOf numbersAt numberAt
+read-by-port = (refl, refl)

@@ -5,7 +5,8 @@ use native.Mathlib.Omega.{arith}
 use borrow.Author.Tests.{ne-eqb}
 use Rattle.reading.specs.declared.Kind.{Kind}
 use Rattle.reading.specs.declared.Kind.the-variants.{Write, Read, Assert, Check, Unknown}
-use Rattle.reading.specs.Kinds.{kindOf, sizeOf}
+use Rattle.reading.specs.Kinds.{kindOf, sizeOf, isKnown, leadOf}
+use mathlib.Core.Bool.{true, false≢true}
 
 pub kind-other : (b : ℕ) → (b ≡ 1 → ⊥) → (b ≡ 2 → ⊥) → (b ≡ 3 → ⊥) → (b ≡ 4 → ⊥) → Unknown ≡ kindOf b
 unfolding kindOf
@@ -35,3 +36,20 @@ module _ (n w : ℕ) where
   size-most Assert = omega arith
   size-most Check = omega arith
   size-most Unknown = omega arith
+
+-- an access of a kind has nodes; at most one byte stands before them
+pub known-size : (kind : Kind) (n w : ℕ) → isKnown kind ≡ true → 1 ≤ sizeOf kind n w
+unfolding sizeOf
+known-size Write n w e = omega arith
+known-size Read n w e = omega arith
+known-size Assert n w e = omega arith
+known-size Check n w e = omega arith
+known-size Unknown n w e = absurd (false≢true e)
+
+pub lead-most : (kind : Kind) → leadOf kind ≤ 1
+unfolding leadOf
+lead-most Write = omega arith
+lead-most Read = omega arith
+lead-most Assert = omega arith
+lead-most Check = omega arith
+lead-most Unknown = omega arith

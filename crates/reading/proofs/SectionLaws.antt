@@ -7,7 +7,7 @@ use Prim.Native.Nat.{ℕ, zero, suc, _+_, _*_, _-_, _<_, _≤_}
 use native.Mathlib.Numerals.{add-one}
 use native.Mathlib.Omega.{arith}
 use lib.Dec.{leb}
-use lib.ListN.{length, getD}
+use lib.ListN.{length, getD, length-replicate, getD-replicate}
 use borrow.Author.Tests.{lt-leb, le-leb, leb-true}
 use Rattle.nodes.specs.Words.{withNode, withTerminals, capacityOf}
 use Rattle.nodes.specs.Standard.{counted, isStandard, Standard}
@@ -15,13 +15,13 @@ use Rattle.nodes.proofs.TestLaws.{test-fails, test-holds}
 use Rattle.nodes.proofs.WordsLaws.{node-length, node-other}
 use Rattle.nodes.proofs.StandardLaws.{counted-is}
 use Rattle.conditions.proofs.Promises.{standard-is, is-standard, is-user}
-use Rattle.model.specs.Record.{Record}
+use Rattle.model.specs.Record.{Record, freshPorts}
 use Rattle.model.specs.Rows.{firstRow, row1}
 use Rattle.model.specs.Step.{State, freshRecord}
 use Rattle.model.specs.Claims.{Begins}
-use Rattle.model.specs.Frames.{Valid}
+use Rattle.model.specs.Frames.{Valid, PortsValid}
 use Rattle.model.proofs.FactLaws.{rows-hold, row1-tells}
-use Rattle.model.proofs.ValidLaws.{no-entries}
+use Rattle.model.proofs.ValidLaws.{no-entries, users-ports}
 use Rattle.reading.specs.declared.Loaded.{Loaded}
 use Rattle.reading.specs.declared.Loaded.the-variants.{Ready}
 use Rattle.reading.specs.Bytes.{numberAt}
@@ -217,10 +217,10 @@ sections-ready file words {ws} e f = sections-read file words (ap (λ (r : Loade
 -- a case begins in a state in which rows 1 to 3 refuse nothing, and from which demand 3 is claimed
 module _ {file words ws : List ℕ} {n w count accesses at : ℕ} (R : SectionsRead file words ws n w count accesses at) (list : List ℕ) where
   abbrev pub firstState : State
-  firstState = record { rec = firstRecord n w count; words = ws; list = list }
+  firstState = record { rec = firstRecord n w count; words = ws; list = list; ports = freshPorts }
 
   pub sections-begin : Begins firstState
-  sections-begin = record { standard = R .standard; entries = refl; asserted = refl; checked = refl }
+  sections-begin = record { standard = R .standard; entries = refl; asserted = refl; checked = refl; ports = refl; wide = row1-tells (firstRecord n w count) ws .is (R .range) .w-most }
 
   pub sections-valid : Valid firstState
   sections-valid =
@@ -231,3 +231,10 @@ module _ {file words ws : List ℕ} {n w count accesses at : ℕ} (R : SectionsR
         two = is-standard ws count S;
         three = no-entries (firstRecord n w count) ws list refl u u;
       }
+
+  pub sections-ports-valid : PortsValid firstState
+  sections-ports-valid =
+      let S = R .standard in
+      let u = is-user ws count 1 (omega (arith, S .two)) (omega (arith, S .var1)) in
+      let wide = row1-tells (firstRecord n w count) ws .is (R .range) .w-most in
+      users-ports firstState (length-replicate {A = ℕ} 128 1) (λ p a i b. rw (getD-replicate {A = ℕ} 128 (p * 32 + i) 1 0 (omega (arith, a, b, wide))) u)

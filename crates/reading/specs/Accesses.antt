@@ -9,25 +9,28 @@ use Rattle.reading.specs.declared.Kind.{Kind}
 use Rattle.reading.specs.declared.Access.{Access}
 use Rattle.reading.specs.declared.Access.the-variants as access
 use Rattle.reading.specs.declared.Progress.{Progress}
-use Rattle.reading.specs.Kinds.{kindOf, isKnown, sizeOf}
+use Rattle.reading.specs.Kinds.{kindOf, isKnown, sizeOf, leadOf, portOf}
 
--- an access's kind, and the byte where its nodes begin; or a refusal's number
+-- an access's kind, its port, and the byte where its nodes begin; or a refusal's number
 pub data Found : Type 0 where
-  found : Kind → ℕ → Found
+  found : Kind → ℕ → ℕ → Found
   refused : ℕ → Found
 
 -- an access as the functions answer it
 abbrev pub foundOf : Access → Found
-foundOf (access.Here kind from) = found kind from
+foundOf (access.Here kind port from) = found kind port from
 foundOf (access.Refused k) = refused k
 
 -- the kind that the byte at a place selects
 abbrev pub kindAt : List ℕ → ℕ → Kind
 kindAt file at = kindOf (getD file at 0)
 
--- where the nodes of the access at a place begin: after its kind byte
+-- the port of the access at a place; where its nodes begin: after its kind byte and, of a read, its port byte
+abbrev pub portIn : List ℕ → ℕ → ℕ
+portIn file at = portOf (kindAt file at) (getD file (at + 1) 0)
+
 abbrev pub nodesAt : List ℕ → ℕ → ℕ
-nodesAt file at = at + 1
+nodesAt file at = at + 1 + leadOf (kindAt file at)
 
 -- the byte after the access at a place: "every node 2 bytes"
 abbrev pub endOf : List ℕ → ℕ → ℕ → ℕ → ℕ
@@ -48,11 +51,11 @@ foundUnless (suc k) x = refused (suc k)
 
 -- the access at a place, for n and w
 unfoldable pub accessAt : List ℕ → ℕ → ℕ → ℕ → Found
-accessAt file at n w = foundUnless (firstRow (accessRows file at n w)) (found (kindAt file at) (nodesAt file at))
+accessAt file at n w = foundUnless (firstRow (accessRows file at n w)) (found (kindAt file at) (portIn file at) (nodesAt file at))
 
 -- from the first of two bytes where an access stands, else from the second
 abbrev pub goesOnFrom : Found → ℕ → ℕ → ℕ
-goesOnFrom (found kind from) end at = end
+goesOnFrom (found kind port from) end at = end
 goesOnFrom (refused k) end at = at
 
 -- "A reading of the case file goes on from the byte after the last access"; where none stands, from where it was

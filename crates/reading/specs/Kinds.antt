@@ -24,3 +24,18 @@ sizeOf Read n w = 2 + 2 * n
 sizeOf Assert n w = 1 + 2 * n + 2 * w
 sizeOf Check n w = 1 + 2 * n + 2 * w
 sizeOf Unknown n w = 0
+
+-- 02: "A read in a case file has a port byte after its kind.": how many bytes stand between the kind and the nodes, and the port by the byte after the kind
+unfoldable pub leadOf : Kind → ℕ
+leadOf Write = 0
+leadOf Read = 1
+leadOf Assert = 0
+leadOf Check = 0
+leadOf Unknown = 0
+
+unfoldable pub portOf : Kind → ℕ → ℕ
+portOf Write b = 0
+portOf Read b = b
+portOf Assert b = 0
+portOf Check b = 0
+portOf Unknown b = 0

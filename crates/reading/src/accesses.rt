@@ -21,16 +21,18 @@ pub fn find_access(bytes: &[u8], at: usize, n: u32, w: u32) -> Progress
             at,
         };
     }
-    let size = 2 * kinds::operands(kind, n, w);
-    let from = at + 1;
-    if bytes.len() - from < size {
+    let size = kinds::lead(kind) + 2 * kinds::operands(kind, n, w);
+    let next = at + 1;
+    if bytes.len() - next < size {
         return Progress {
             access: Access::Refused(10),
             at,
         };
     }
+    let port = kinds::port_of(kind, bytes[next]);
+    let from = next + kinds::lead(kind);
     Progress {
-        access: Access::Here { kind, from },
-        at: from + size,
+        access: Access::Here { kind, port, from },
+        at: next + size,
     }
 }

@@ -1,7 +1,7 @@
 // The kinds of accesses.
 ghost use mathlib.Core.Path.{_≡_};
 ghost use Prim.Native.Nat.{_+_, _*_, _≤_};
-ghost use Rattle.reading.specs.Kinds.{kindOf, isKnown, sizeOf};
+ghost use Rattle.reading.specs.Kinds.{kindOf, isKnown, sizeOf, leadOf, portOf};
 use super::Kind;
 
 // The kind that a byte selects.
@@ -55,6 +55,32 @@ pub fn operands(kind: Kind, n: u32, w: u32) -> usize
         Kind::Read => address_end(2, n),
         Kind::Assert => data_end(1, n, w),
         Kind::Check => data_end(1, n, w),
+        Kind::Unknown => 0,
+    }
+}
+
+// How many bytes stand between the kind byte and the nodes: a read's port.
+pub fn lead(kind: Kind) -> usize
+    ensures { λ r. ⌜ r ≡ leadOf kind ⌝ }
+{
+    match kind {
+        Kind::Write => 0,
+        Kind::Read => 1,
+        Kind::Assert => 0,
+        Kind::Check => 0,
+        Kind::Unknown => 0,
+    }
+}
+
+// The port of an access, by the byte after its kind.
+pub fn port_of(kind: Kind, b: u8) -> u32
+    ensures { λ r. ⌜ r ≡ portOf kind b ⌝ }
+{
+    match kind {
+        Kind::Write => 0,
+        Kind::Read => b as u32,
+        Kind::Assert => 0,
+        Kind::Check => 0,
         Kind::Unknown => 0,
     }
 }

@@ -27,9 +27,9 @@ pub enum Kind {
     Unknown,
 }
 
-// An access in the file: its kind, and the byte where its nodes begin.
+// An access in the file: its kind, its port, which a read alone has, and the byte where its nodes begin.
 pub enum Access {
-    Here { kind: Kind, from: usize },
+    Here { kind: Kind, port: u32, from: usize },
     Refused(u32),
 }
 

@@ -16,12 +16,16 @@ use Rattle.rows.specs.declared.Fields.{Fields}
 use Rattle.rows.specs.declared.slices.Fault.{Fault}
 use Rattle.rows.specs.declared.slices.Fault.the-variants as faults
 
--- the record, node words and list of a call
+-- the record, node words and list of a call that is lent no ports: none are seen
 abbrev pub recordOf : Fields → model.Record
 recordOf r = record { n = r .n; w = r .w; count = r .count; entries = r .entries; asserted = r .asserted; checked = r .checked }
 
 abbrev pub stateOf : Fields → List ℕ → List ℕ → State
-stateOf r w l = record { rec = recordOf r; words = w; list = l }
+stateOf r w l = record { rec = recordOf r; words = w; list = l; ports = [] }
+
+-- and of one that is lent ports
+abbrev pub portedOf : Fields → List ℕ → List ℕ → List ℕ → State
+portedOf r w l ps = record { rec = recordOf r; words = w; list = l; ports = ps }
 
 -- the answer of a call that is refused by a number, or by none where that is 0: then it gives this
 abbrev pub unlessRefused : ℕ → Given → Answer
@@ -30,7 +34,7 @@ unlessRefused (suc k) g = refused (suc k)
 
 -- a call that is lent no list: whatever the list is, it stays
 abbrev pub AnswersAnyList : NodeCall → model.Record → List ℕ → model.Record → List ℕ → Answer → Type 0
-AnswersAnyList c r w r′ w′ a = (l : List ℕ) → AnswersNode c (record { rec = r; words = w; list = l }) (record { rec = r′; words = w′; list = l }) a
+AnswersAnyList c r w r′ w′ a = (l : List ℕ) → AnswersNode c (record { rec = r; words = w; list = l; ports = [] }) (record { rec = r′; words = w′; list = l; ports = [] }) a
 
 -- where an access is accepted, the computed table is right for the next
 abbrev pub Next : State → Answer → List ℕ → Type 0

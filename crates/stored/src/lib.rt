@@ -3,6 +3,7 @@ mod changes;
 mod digest;
 
 pub use changes::changed;
+pub use changes::changed_ports;
 pub use digest::digest_bytes;
 pub use digest::digest_words;
 ghost use Prim.Native.Nat.{_≤_};
@@ -45,15 +46,21 @@ pub fn next() -> Item {
     }
 }
 
+// Puts a word at a place, if there is one.
+fn put_word(to: &mut [u32], at: u32, word: u32) {
+    let place = at as usize;
+    if place < to.len() {
+        to[place] = word;
+    }
+}
+
 // Puts c words from place b on: the first is e, and each next stands d places on and is more by f.
-pub fn put(x: Item, to: &mut Words) {
+pub fn put(x: Item, to: &mut [u32]) {
     let mut at = x.b;
     let mut word = x.e;
     let mut left = x.c;
     while left > 0 {
-        if at < 49160 {
-            to[at as usize] = word;
-        }
+        put_word(to, at, word);
         at = std::num::wrapping_add_u32(at, x.d);
         word = std::num::wrapping_add_u32(word, x.f);
         left -= 1;

@@ -1,7 +1,7 @@
 //! The paper's example by the calls: 1 is written to location 1 or 0, as variable 8 says; then location
 //! 0 is read, and checked against 1.
 
-use mangerday::{Record, Refused};
+use mangerday::{Ports, Record, Refused};
 
 /// A condition's text: 0, 1 or (v low high).
 fn text(nodes: &[u32], node: u32) -> String {
@@ -12,15 +12,15 @@ fn text(nodes: &[u32], node: u32) -> String {
 }
 
 fn main() -> Result<(), Refused> {
-    let (mut nodes, mut list, mut word) = ([0; 96], [0; 24], [0; 2]);
+    let (mut nodes, mut list, mut ports, mut word) = ([0; 96], [0; 24], Ports::default(), [0; 2]);
     let (one, zero) = ([1, 0], [0, 1]);
-    let mut memory = Record::fresh(1, 1, &mut nodes)?;
+    let mut memory = Record::fresh(1, 1, &mut nodes, &mut ports)?;
     let a = memory.variable(&mut nodes, 8)?;
     let not_a = memory.ite(&mut nodes, a, 0, 1)?;
 
     let place = memory.write(&mut nodes, &mut list, &one, &[a, not_a], &one)?;
     println!("write {place}");
-    memory.read(&mut nodes, &list, &one, &zero, &mut word)?;
+    memory.read(&mut nodes, &list, &mut ports, 0, &one, &zero, &mut word)?;
     println!("read {}:{}", text(&nodes, word[0]), text(&nodes, word[1]));
     memory.check(&mut nodes, &list, 1, &zero, &one)?;
     println!("check {}", text(&nodes, memory.checked));

@@ -5,16 +5,17 @@
 //! be 1 where `h` holds and 0 where `l` holds: `1, 0` is 1, `0, 1` is 0, `1, 1` is X. An address is n
 //! pairs, a data word w pairs, lowest bit first and `h` before `l`; an enable is one pair. The memory
 //! is a [`Record`], node words and list words together; they go from call to call as the last call
-//! left them.
+//! left them, and so do the read [`Ports`], which `fresh` begins and `read` alone sees.
 //!
-//! Any words may be lent. A call that the panel's table turns down answers [`Refused`] with the row's
-//! number and leaves record, nodes below the count, list and answer words as they were.
+//! Any words may be lent. A call tests its rows of the panel's table in the order listed for it. One that
+//! is turned down answers [`Refused`] with the row's number and leaves record, nodes below the count,
+//! list, ports and answer words as they were.
 //!
 //! ```
-//! use mangerday::Record;
+//! use mangerday::{Ports, Record};
 //!
-//! let (mut nodes, mut list) = ([0; 96], [0; 24]);
-//! let mut memory = Record::fresh(1, 1, &mut nodes)?;
+//! let (mut nodes, mut list, mut ports) = ([0; 96], [0; 24], Ports::default());
+//! let mut memory = Record::fresh(1, 1, &mut nodes, &mut ports)?;
 //! let a = memory.variable(&mut nodes, 8)?;
 //! let not_a = memory.ite(&mut nodes, a, 0, 1)?;
 //! // 1 is stored at location 1 where variable 8 is 1, and at location 0 where it is 0.
@@ -22,7 +23,10 @@
 //! assert_eq!(place, 0);
 //! // Location 0 may hold 1 in any case, and 0 where variable 8 is 1.
 //! let mut word = [0; 2];
-//! memory.read(&mut nodes, &list, &[1, 0], &[0, 1], &mut word)?;
+//! memory.read(&mut nodes, &list, &mut ports, 0, &[1, 0], &[0, 1], &mut word)?;
+//! assert_eq!(word, [1, a]);
+//! // Port 0 now holds that word, and gives it again where it is not enabled.
+//! memory.read(&mut nodes, &list, &mut ports, 0, &[0, 1], &[1, 0], &mut word)?;
 //! assert_eq!(word, [1, a]);
 //! # Ok::<(), mangerday::Refused>(())
 //! ```
@@ -58,7 +62,21 @@ pub struct Record {
     pub checked: u32,
 }
 
-/// A refusal: the number of its row in the panel's table, 1 to 13.
+/// The four read ports, each of 32 words: the word that was read by it last is in the first 2w of them.
+///
+/// They are plain words, and a read refuses held words that are no conditions.
+#[repr(transparent)]
+#[derive(Clone, Copy, Debug, PartialEq, Eq, Hash)]
+pub struct Ports(pub [u32; 128]);
+
+impl Default for Ports {
+    /// Every port holds X, as [`Record::fresh`] leaves them.
+    fn default() -> Ports {
+        Ports([1; 128])
+    }
+}
+
+/// A refusal: the number of its row in the panel's table, 1 to 14.
 #[derive(Clone, Copy, Debug, PartialEq, Eq, Hash)]
 pub struct Refused(pub u32);
 
@@ -111,35 +129,35 @@ fn answer<T>(row: u32, accepted: T) -> Result<T, Refused> {
 // by `&mut` overlaps nothing else that is lent: so each call below meets what the functions ask.
 impl Record {
     /// A memory of `n` address bits, 1 to 8, and `w` data bits, 1 to 16: no entries, both conditions 1,
-    /// and nodes 0 and 1 written into the node words, which are at least 6. Meets 1 and 2.
-    pub fn fresh(n: u32, w: u32, nodes: &mut [u32]) -> Result<Record, Refused> {
+    /// nodes 0 and 1 written into the node words, which are at least 6, and every port X. Meets 1, 2.
+    pub fn fresh(n: u32, w: u32, nodes: &mut [u32], ports: &mut Ports) -> Result<Record, Refused> {
         let mut record = Record::default();
-        let row = unsafe { raw::md_fresh(&mut record, n, w, nodes.as_mut_ptr(), nodes.len()) };
+        let row = unsafe { raw::md_fresh(&mut record, n, w, nodes.as_mut_ptr(), nodes.len(), ports) };
         answer(row, record)
     }
 
-    /// The value of a node under an assignment, in which bit v is variable v. Meets 1, 2 and 5.
+    /// The value of a node under an assignment, in which bit v is variable v. Meets 1, 2, 5.
     pub fn evaluate(&self, nodes: &[u32], node: u32, assignment: u64) -> Result<bool, Refused> {
         let mut value = 0;
         let row = unsafe { raw::md_evaluate(self, nodes.as_ptr(), nodes.len(), node, assignment, &mut value) };
         answer(row, value == 1)
     }
 
-    /// The node of a user variable, 8 to 63. Meets 1, 2, 5 and 9.
+    /// The node of a user variable, 8 to 63. Meets 1, 2, 5, 9.
     pub fn variable(&mut self, nodes: &mut [u32], variable: u32) -> Result<u32, Refused> {
         let mut node = 0;
         let row = unsafe { raw::md_variable(self, nodes.as_mut_ptr(), nodes.len(), variable, &mut node) };
         answer(row, node)
     }
 
-    /// The node that is `g` where `f` holds and `h` elsewhere. Meets 1, 2, 5 and 9.
+    /// The node that is `g` where `f` holds and `h` elsewhere. Meets 1, 2, 5, 9.
     pub fn ite(&mut self, nodes: &mut [u32], f: u32, g: u32, h: u32) -> Result<u32, Refused> {
         let mut node = 0;
         let row = unsafe { raw::md_ite(self, nodes.as_mut_ptr(), nodes.len(), f, g, h, &mut node) };
         answer(row, node)
     }
 
-    /// Write: appends an entry and answers its place, counted from 0. Meets 1 to 6, 8 and 9.
+    /// Write: appends an entry and answers its place, counted from 0. Meets 1, 2, 3, 4, 5, 6, 8, 9.
     pub fn write(
         &mut self,
         nodes: &mut [u32],
@@ -168,11 +186,16 @@ impl Record {
         answer(row, place)
     }
 
-    /// Read: fills the 2w words of `word`, each bit's h before its l. Meets 1 to 6 and 9.
+    /// Read by a port: fills the 2w words of `word`, each bit's h before its l, with the word at the
+    /// address where the enable is 1, the word that the port holds where it is 0, and what either may be
+    /// where it is X. Then the port holds them. Meets 1, 2, 3, 4, 14, 5, 6, 9.
+    #[allow(clippy::too_many_arguments)]
     pub fn read(
         &mut self,
         nodes: &mut [u32],
         list: &[u32],
+        ports: &mut Ports,
+        port: u32,
         enable: &[u32],
         address: &[u32],
         word: &mut [u32],
@@ -184,6 +207,8 @@ impl Record {
                 nodes.len(),
                 list.as_ptr(),
                 list.len(),
+                ports,
+                port,
                 enable.as_ptr(),
                 enable.len(),
                 address.as_ptr(),
@@ -195,7 +220,7 @@ impl Record {
         answer(row, ())
     }
 
-    /// Assert: narrows the assert condition, and enters the data or keeps what is there. Meets 1 to 9.
+    /// Assert: narrows the assert condition, and enters the data or keeps what is there. Meets 1, 2, 3, 4, 5, 6, 7, 8, 9.
     pub fn assert(
         &mut self,
         nodes: &mut [u32],
@@ -223,7 +248,8 @@ impl Record {
         answer(row, if entered == 1 { Asserted::Entered } else { Asserted::Kept })
     }
 
-    /// Check: narrows the check condition to where the data admits what the memory may hold. Meets 1 to 6 and 9.
+    /// Check: narrows the check condition to where the data admits what the memory may hold. Meets 1, 2,
+    /// 3, 4, 5, 6, 9.
     pub fn check(
         &mut self,
         nodes: &mut [u32],
@@ -250,8 +276,8 @@ impl Record {
     }
 }
 
-/// A case file, run from its first byte to its last: its text is written into `text`. A refused case
-/// leaves node words, list words and text bytes all 0, and meets any row but 3 and 4.
+/// A case file, run from its first byte to its last, with ports of its own: its text is written into
+/// `text`. A refused case leaves node words, list words and text bytes all 0, and meets any row but 3 and 4.
 pub fn case(bytes: &[u8], nodes: &mut [u32], list: &mut [u32], text: &mut [u8]) -> Result<Case, CaseRefused> {
     let mut record = Record::default();
     let mut count = 0;

@@ -1,9 +1,16 @@
 //! The functions of the archive as `include/mangerday.h` declares them, with what a caller must see to.
 
-use crate::Record;
+use crate::{Ports, Record};
 
 extern "C" {
-    pub fn md_fresh(record: *mut Record, n: u32, w: u32, nodes: *mut u32, nodes_length: usize) -> u32;
+    pub fn md_fresh(
+        record: *mut Record,
+        n: u32,
+        w: u32,
+        nodes: *mut u32,
+        nodes_length: usize,
+        ports: *mut Ports,
+    ) -> u32;
 
     pub fn md_evaluate(
         record: *const Record,
@@ -48,6 +55,8 @@ extern "C" {
         nodes_length: usize,
         list: *const u32,
         list_length: usize,
+        ports: *mut Ports,
+        port: u32,
         enable: *const u32,
         enable_length: usize,
         address: *const u32,

@@ -1,8 +1,8 @@
 //! The safe functions over the stored calls and the stored cases of the repository: what each answers,
-//! and every word of every buffer, as the second program found them. `tests/callscript.py` and
+//! and every word of every buffer, as the second program found them. `tests/README.md` and
 //! `tools/storedcases.py` say how the inputs are laid out.
 
-use mangerday::{case, Asserted, Record, Refused};
+use mangerday::{case, Asserted, Ports, Record, Refused};
 use std::fmt::Write;
 use std::{fs, thread};
 
@@ -25,10 +25,14 @@ fn item(input: &mut &[u8]) -> Option<[u32; 8]> {
 
 const OUT: u32 = 7;
 
-/// The buffers of the stored calls: nodes, list, control, address and data; and the record.
+const READ: u32 = 2;
+
+/// The buffers of the stored calls: nodes, list, control, address and data, then ports; and the record.
+#[derive(Clone)]
 struct Buffers {
     record: Record,
     words: [Vec<u32>; 5],
+    ports: Ports,
 }
 
 /// The number that a call returns in C, and its out-word.
@@ -41,20 +45,20 @@ fn number(answer: Result<u32, Refused>) -> (u32, u32) {
 
 impl Buffers {
     fn put(&mut self, [buffer, place, many, stride, value, step]: [u32; 6]) {
+        let words = self.words.get_mut(buffer as usize).map_or(&mut self.ports.0[..], |words| &mut words[..]);
         for i in 0..many {
-            let word = value.wrapping_add(i.wrapping_mul(step));
-            self.words[buffer as usize][(place + i * stride) as usize] = word;
+            words[(place + i * stride) as usize] = value.wrapping_add(i.wrapping_mul(step));
         }
     }
 
     /// A call once.
-    fn call(&mut self, [kind, lent, a, b, c, d, ..]: [u32; 8]) -> (u32, u32) {
-        let record = &mut self.record;
+    fn call(&mut self, [kind, lent, a, b, c, d, port, _]: [u32; 8]) -> (u32, u32) {
+        let (record, ports) = (&mut self.record, &mut self.ports);
         let [nodes, list, control, address, data] = &mut self.words;
         let nodes = &mut nodes[..lent as usize];
         if kind > 4 {
             return number(match kind {
-                5 => Record::fresh(a, b, nodes).map(|fresh| {
+                5 => Record::fresh(a, b, nodes, ports).map(|fresh| {
                     *record = fresh;
                     OUT
                 }),
@@ -66,21 +70,23 @@ impl Buffers {
         let (list, address, data) = (&mut list[..a as usize], &address[..c as usize], &mut data[..d as usize]);
         number(match kind {
             1 => record.write(nodes, list, &control[..b as usize], address, data),
-            2 => record.read(nodes, list, &control[..b as usize], address, data).map(|()| OUT),
+            READ => record.read(nodes, list, ports, port, &control[..b as usize], address, data).map(|()| OUT),
             3 => record.assert(nodes, list, b, address, data).map(|done| u32::from(done == Asserted::Entered)),
             _ => record.check(nodes, list, b, address, data).map(|()| OUT),
         })
     }
 
-    /// A call as often as its item says, and its line.
+    /// A call as often as its item says, a read once, and its line.
     fn line(&mut self, numbers: [u32; 8]) -> String {
-        let before = self.words.clone();
-        let (row, out) = (0..numbers[6]).fold((0, OUT), |_, _| self.call(numbers));
+        let before = self.clone();
+        let times = if numbers[0] == READ { 1 } else { numbers[6] };
+        let (row, out) = (0..times).fold((0, OUT), |_, _| self.call(numbers));
         let Record { n, w, nodes, entries, asserted, checked } = self.record;
         let mut line = format!("call {} {row} {out} {n} {w} {nodes} {entries} {asserted} {checked}", numbers[7]);
         for (name, buffer) in [("nodes", 0), ("list", 1), ("data", 4)] {
-            put_changes(&mut line, name, &before[buffer], &self.words[buffer]);
+            put_changes(&mut line, name, &before.words[buffer], &self.words[buffer]);
         }
+        put_changes(&mut line, "ports", &before.ports.0, &self.ports.0);
         line
     }
 }
@@ -104,7 +110,8 @@ fn stored_calls() {
     let (input, output) = (read("memory_test/stdin"), read("memory_test/stdout"));
     let (mut input, output) = (&input[..], String::from_utf8(output).expect("a text"));
     let mut expected = output.lines();
-    let mut buffers = Buffers { record: Record::default(), words: std::array::from_fn(|_| vec![0; 49_160]) };
+    let words = std::array::from_fn(|_| vec![0; 49_160]);
+    let mut buffers = Buffers { record: Record::default(), words, ports: Ports([0; 128]) };
     while let Some(numbers) = item(&mut input) {
         let [kind, a, b, c, d, e, f, _] = numbers;
         match kind {
@@ -164,7 +171,8 @@ fn stored_cases() {
 fn small_stack() {
     let run = || {
         let (mut nodes, mut list, mut word) = (vec![0; 49_152], vec![0; 4 * 50], [0; 32]);
-        let mut record = mangerday::Record::fresh(8, 16, &mut nodes)?;
+        let mut ports = Ports::default();
+        let mut record = Record::fresh(8, 16, &mut nodes, &mut ports)?;
         let (mut odd, mut even) = (0, 1);
         for variable in (8..64).rev() {
             let x = record.variable(&mut nodes, variable)?;
@@ -173,7 +181,8 @@ fn small_stack() {
         let (address, data) = ([odd, even].repeat(8), [even, odd].repeat(16));
         record.write(&mut nodes, &mut list, &[1, 0], &address, &data)?;
         record.assert(&mut nodes, &mut list, odd, &address, &data)?;
-        record.read(&mut nodes, &list, &[odd, even], &[1, 1].repeat(8), &mut word)?;
+        record.read(&mut nodes, &list, &mut ports, 0, &[odd, even], &[1, 1].repeat(8), &mut word)?;
+        record.read(&mut nodes, &list, &mut ports, 0, &[even, 1], &address, &mut word)?;
         record.check(&mut nodes, &list, 1, &address, &data)
     };
     let thread = thread::Builder::new().stack_size(mangerday::STACK).spawn(run).expect("a thread");

@@ -32,7 +32,7 @@ same-length-2 : tie.Need-same-length-2
 same-length-2 c = search needs
 
 returns : tie.Need-returns
-returns c = call-is assertAnswer (access (assert _ (now (c .before .before .before .before .before .before .before .before .before .before .before .before .before .before .before .before .before .args .address)) (now (c .before .before .before .before .before .before .before .before .before .before .before .before .before .before .before .before .before .args .data)))) (now (c .before .before .before .before .before .before .before .before .before .before .before .before .before .before .before .before .before .args .record)) (now (c .before .before .before .before .before .before .before .before .before .before .before .before .before .before .before .before .before .args .nodes)) (now (c .before .before .before .before .before .before .before .before .before .before .before .before .before .before .before .before .before .args .list)) [] (now (c .before .before .before .before .before .before .before .before .before .before .before .before .before .before .before .before .before .args .entered)) (c .enum-told .given .1) (c .before .before .before .before .before .before .before .before .before .before .before .record-of .ensures) (c .before .before .before .before .before .before .before .before .assert .ensures) (c .before .before .put-record .ensures)
+returns c = call-is assertAnswer (access (assert _ (now (c .before .before .before .before .before .before .before .before .before .before .before .before .before .before .before .before .before .args .address)) (now (c .before .before .before .before .before .before .before .before .before .before .before .before .before .before .before .before .before .args .data)))) (now (c .before .before .before .before .before .before .before .before .before .before .before .before .before .before .before .before .before .args .record)) (now (c .before .before .before .before .before .before .before .before .before .before .before .before .before .before .before .before .before .args .nodes)) (now (c .before .before .before .before .before .before .before .before .before .before .before .before .before .before .before .before .before .args .list)) [] [] (now (c .before .before .before .before .before .before .before .before .before .before .before .before .before .before .before .before .before .args .entered)) (c .enum-told .given .1) (c .before .before .before .before .before .before .before .before .before .before .before .record-of .ensures) (c .before .before .before .before .before .before .before .before .assert .ensures []) (c .before .before .put-record .ensures)
 
 same-length-3 : tie.Need-same-length-3
 same-length-3 c = search needs
@@ -41,7 +41,7 @@ same-length-4 : tie.Need-same-length-4
 same-length-4 c = search needs
 
 returns-2 : tie.Need-returns-2
-returns-2 c = call-is assertAnswer (access (assert _ (now (c .before .before .before .before .before .before .before .before .before .before .before .before .before .before .before .before .before .args .address)) (now (c .before .before .before .before .before .before .before .before .before .before .before .before .before .before .before .before .before .args .data)))) (now (c .before .before .before .before .before .before .before .before .before .before .before .before .before .before .before .before .before .args .record)) (now (c .before .before .before .before .before .before .before .before .before .before .before .before .before .before .before .before .before .args .nodes)) (now (c .before .before .before .before .before .before .before .before .before .before .before .before .before .before .before .before .before .args .list)) [] (now (c .before .before .before .before .before .before .before .before .before .before .before .before .before .before .before .before .before .args .entered)) (c .enum-told2 .given .1) (c .before .before .before .before .before .before .before .before .before .before .before .record-of .ensures) (c .before .before .before .before .before .before .before .before .assert .ensures) (c .before .before .put-record .ensures)
+returns-2 c = call-is assertAnswer (access (assert _ (now (c .before .before .before .before .before .before .before .before .before .before .before .before .before .before .before .before .before .args .address)) (now (c .before .before .before .before .before .before .before .before .before .before .before .before .before .before .before .before .before .args .data)))) (now (c .before .before .before .before .before .before .before .before .before .before .before .before .before .before .before .before .before .args .record)) (now (c .before .before .before .before .before .before .before .before .before .before .before .before .before .before .before .before .before .args .nodes)) (now (c .before .before .before .before .before .before .before .before .before .before .before .before .before .before .before .before .before .args .list)) [] [] (now (c .before .before .before .before .before .before .before .before .before .before .before .before .before .before .before .before .before .args .entered)) (c .enum-told2 .given .1) (c .before .before .before .before .before .before .before .before .before .before .before .record-of .ensures) (c .before .before .before .before .before .before .before .before .assert .ensures []) (c .before .before .put-record .ensures)
 
 same-length-5 : tie.Need-same-length-5
 same-length-5 c = search needs
@@ -50,7 +50,7 @@ same-length-6 : tie.Need-same-length-6
 same-length-6 c = search needs
 
 returns-3 : tie.Need-returns-3
-returns-3 c = call-is assertAnswer (access (assert _ (now (c .before .before .before .before .before .before .before .before .before .before .before .before .before .before .before .before .before .before .args .address)) (now (c .before .before .before .before .before .before .before .before .before .before .before .before .before .before .before .before .before .before .args .data)))) (now (c .before .before .before .before .before .before .before .before .before .before .before .before .before .before .before .before .before .before .args .record)) (now (c .before .before .before .before .before .before .before .before .before .before .before .before .before .before .before .before .before .before .args .nodes)) (now (c .before .before .before .before .before .before .before .before .before .before .before .before .before .before .before .before .before .before .args .list)) [] (now (c .before .before .before .before .before .before .before .before .before .before .before .before .before .before .before .before .before .before .args .entered)) (c .before .answer .given .1) (c .before .before .before .before .before .before .before .before .before .before .before .before .record-of .ensures) (c .before .before .before .before .before .before .before .before .before .assert .ensures) (c .before .before .before .put-record .ensures)
+returns-3 c = call-is assertAnswer (access (assert _ (now (c .before .before .before .before .before .before .before .before .before .before .before .before .before .before .before .before .before .before .args .address)) (now (c .before .before .before .before .before .before .before .before .before .before .before .before .before .before .before .before .before .before .args .data)))) (now (c .before .before .before .before .before .before .before .before .before .before .before .before .before .before .before .before .before .before .args .record)) (now (c .before .before .before .before .before .before .before .before .before .before .before .before .before .before .before .before .before .before .args .nodes)) (now (c .before .before .before .before .before .before .before .before .before .before .before .before .before .before .before .before .before .before .args .list)) [] [] (now (c .before .before .before .before .before .before .before .before .before .before .before .before .before .before .before .before .before .before .args .entered)) (c .before .answer .given .1) (c .before .before .before .before .before .before .before .before .before .before .before .before .record-of .ensures) (c .before .before .before .before .before .before .before .before .before .assert .ensures []) (c .before .before .before .put-record .ensures)
 
 pub md-assert-spec : {M : Type 1} → statement M
 md-assert-spec =

@@ -1,6 +1,7 @@
-use Rattle.entering.proofs.WordLaws.{checked-below}
+use mathlib.Core.List.{[]}
+use Rattle.entering.proofs.WordLaws.{valid-ported, checked-below}
 use Rattle.cases.proofs.CallLaws.{part-size}
-use Rattle.entering.proofs.StepLaws.{answers-as, step-on, step-stop}
+use Rattle.entering.proofs.StepLaws.{any-as, step-on, step-stop}
 use Rattle.memory.specs.Contract.{checkAnswer}
 use Rattle.cases.specs.Case.{callOf}
 use Rattle.text.specs.Text.{out}
@@ -49,7 +50,7 @@ enum-told : tie.Need-enum-told
 enum-told c = search needs
 
 put-check-requires : tie.Need-put-check-requires
-put-check-requires c κs = checked-below _ (c .before .before .before .before .before .before .before .before .before .before .before .before .before .before .before .before .before .before .before .before .pre .0 .valid) (c .before .before .before .before .before .before .before .check-on .ensures .is)
+put-check-requires c κs = checked-below _ (c .before .before .before .before .before .before .before .before .before .before .before .before .before .before .before .before .before .before .before .before .pre .0 .valid) (c .before .before .before .before .before .before .before .check-on .ensures .is [])
 
 printed-requires : tie.Need-printed-requires
 printed-requires c κs = search needs
@@ -65,14 +66,14 @@ same-length-2 c = search needs
 
 returns : tie.Need-returns
 unfolding callOf
-returns c = rw (← c .before .before .before .before .before .before .before .before .before .before .before .before .before .before .before .before .before .data-end .ensures, ← c .before .before .before .before .before .before .before .before .before .before .before .before .before .before .before .before .before .before .address-end .ensures) (step-on _ (c .before .before .before .before .before .before .before .before .before .before .before .before .before .before .before .before .before .before .before .before .before .before .before .before .pre .0 .valid) (answers-as checkAnswer (c .before .before .before .before .before .before .enum-told .given .1) (c .before .before .before .before .before .before .before .before .before .before .before .check-on .ensures)) (c .before .before .before .before .before .before .before .before .before .before .before .before .before .before .before .before .before .before .before .before .before .before .before .before .args .c .at) (out (now (c .before .before .before .before .before .before .before .before .before .before .before .before .before .before .before .before .before .before .before .before .before .before .before .before .args .buf)) (c .before .before .before .before .before .before .before .before .before .before .before .before .before .before .before .before .before .before .before .before .before .before .before .before .args .c .text)) refl (c .before .before .before .put-check .ensures) (c .printed .ensures))
+returns c = λ ps. rw (← c .before .before .before .before .before .before .before .before .before .before .before .before .before .before .before .before .before .data-end .ensures, ← c .before .before .before .before .before .before .before .before .before .before .before .before .before .before .before .before .before .before .address-end .ensures) (step-on _ (valid-ported (c .before .before .before .before .before .before .before .before .before .before .before .before .before .before .before .before .before .before .before .before .before .before .before .before .args .c .memory) (now (c .before .before .before .before .before .before .before .before .before .before .before .before .before .before .before .before .before .before .before .before .before .before .before .before .args .words)) (now (c .before .before .before .before .before .before .before .before .before .before .before .before .before .before .before .before .before .before .before .before .before .before .before .before .args .list)) ps (c .before .before .before .before .before .before .before .before .before .before .before .before .before .before .before .before .before .before .before .before .before .before .before .before .pre .0 .valid)) (any-as checkAnswer (c .before .before .before .before .before .before .enum-told .given .1) (c .before .before .before .before .before .before .before .before .before .before .before .check-on .ensures) ps) (c .before .before .before .before .before .before .before .before .before .before .before .before .before .before .before .before .before .before .before .before .before .before .before .before .args .c .at) (out (now (c .before .before .before .before .before .before .before .before .before .before .before .before .before .before .before .before .before .before .before .before .before .before .before .before .args .buf)) (c .before .before .before .before .before .before .before .before .before .before .before .before .before .before .before .before .before .before .before .before .before .before .before .before .args .c .text)) refl (c .before .before .before .put-check .ensures) (c .printed .ensures))
 
 same-length-3 : tie.Need-same-length-3
 same-length-3 c = search needs
 
 returns-2 : tie.Need-returns-2
 unfolding callOf
-returns-2 c = rw (← c .before .before .before .before .before .before .before .before .before .before .before .before .data-end .ensures, ← c .before .before .before .before .before .before .before .before .before .before .before .before .before .address-end .ensures) (step-stop _ (c .before .before .before .before .before .before .before .before .before .before .before .before .before .before .before .before .before .before .before .args .c .at) (out (now (c .before .before .before .before .before .before .before .before .before .before .before .before .before .before .before .before .before .before .before .args .buf)) (c .before .before .before .before .before .before .before .before .before .before .before .before .before .before .before .before .before .before .before .args .c .text)) (answers-as checkAnswer (c .before .answer .given .1) (c .before .before .before .before .before .before .check-on .ensures)))
+returns-2 c = λ ps. rw (← c .before .before .before .before .before .before .before .before .before .before .before .before .data-end .ensures, ← c .before .before .before .before .before .before .before .before .before .before .before .before .before .address-end .ensures) (step-stop _ (c .before .before .before .before .before .before .before .before .before .before .before .before .before .before .before .before .before .before .before .args .c .at) (out (now (c .before .before .before .before .before .before .before .before .before .before .before .before .before .before .before .before .before .before .before .args .buf)) (c .before .before .before .before .before .before .before .before .before .before .before .before .before .before .before .before .before .before .before .args .c .text)) (any-as checkAnswer (c .before .answer .given .1) (c .before .before .before .before .before .before .check-on .ensures) ps))
 
 pub do-check-spec : {M : Type 1} → statement M
 do-check-spec =

@@ -3,10 +3,10 @@ use Rattle.memory_test.proofs.main.Statement.{statement}
 use Rattle.memory_test.proofs.main.Tie as tie
 
 abbrev Inv-loop : tie.InvT-loop
-Inv-loop r₀ nodes₀ list₀ control₀ address₀ data₀ left₀ r nodes list control address «data» left = Unit {0}
+Inv-loop r₀ nodes₀ list₀ control₀ address₀ data₀ ports₀ left₀ r nodes list control address «data» ports left = Unit {0}
 
 abbrev μ-loop : tie.MeasureT-loop
-μ-loop r₀ nodes₀ list₀ control₀ address₀ data₀ left₀ r nodes list control address «data» left = left
+μ-loop r₀ nodes₀ list₀ control₀ address₀ data₀ ports₀ left₀ r nodes list control address «data» ports left = left
 
 loop-holds : tie.Need-loop-holds Inv-loop μ-loop
 loop-holds c = search needs

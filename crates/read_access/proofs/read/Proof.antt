@@ -1,17 +1,18 @@
-use Rattle.rows.proofs.CallLaws.{memory-turned, lengths-turned, memory-valid, valid-standard}
-use Rattle.rows.specs.Contract.{recordOf, stateOf}
+use Rattle.rows.proofs.CallLaws.{turned, memory-valid, valid-few, valid-standard}
+use Rattle.rows.specs.Contract.{portedOf}
 use Rattle.model.proofs.FactLaws.{and3}
-use Rattle.model.specs.Step.{read}
-use Rattle.model.specs.Rows.{readRows}
+use Rattle.model.specs.Step.{read, accepted}
+use Rattle.model.specs.Frames.{PortsValid}
 use Rattle.conditions.proofs.Promises.{zeros-sound}
 use denote.Ref.{now}
 use borrow.Author.Tests.{eqb-true, not-true, not-false}
-use lib.ListN.{length, drop}
+use native.Mathlib.Omega.{arith}
+use lib.ListN.{length}
 use lib.Dec.{eqb}
 use Prim.Native.Nat.{_*_}
 use mathlib.Core.Bool.{_&&_}
-use mathlib.Core.Path.{refl}
-use Rattle.read_access.proofs.ReadLaws.{leaves-words}
+use mathlib.Core.Path.{_≡_, refl}
+use Rattle.read_access.proofs.ReadLaws.{leaves-words, read-first, read-ports, read-lengths, ports-fail, ports-hold}
 use borrow.Author.Needs.{needs}
 use Rattle.read_access.proofs.read.Statement.{statement}
 use Rattle.read_access.proofs.read.Tie as tie
@@ -23,7 +24,7 @@ same-length : tie.Need-same-length
 same-length c = search needs
 
 returns : tie.Need-returns
-returns c = record { is = memory-turned (read (now (c .before .before .before .before .before .before .before .before .args .enable)) (now (c .before .before .before .before .before .before .before .before .args .address)) (now (c .before .before .before .before .before .before .before .before .args .answer))) (stateOf (c .before .before .before .before .before .before .before .before .args .r) (now (c .before .before .before .before .before .before .before .before .args .words)) (now (c .before .before .before .before .before .before .before .before .args .list))) (drop 3 (readRows (recordOf (c .before .before .before .before .before .before .before .before .args .r)) (now (c .before .before .before .before .before .before .before .before .args .words)) (now (c .before .before .before .before .before .before .before .before .args .list)) (now (c .before .before .before .before .before .before .before .before .args .enable)) (now (c .before .before .before .before .before .before .before .before .args .address)) (now (c .before .before .before .before .before .before .before .before .args .answer)))) refl _ (c .before .memory-row .ensures) (c .if1 .taken); leaves = leaves-words (c .before .memory-row .result) (now (c .before .before .before .before .before .before .before .before .args .answer)) }
+returns c = record { is = turned (read (c .before .before .before .before .before .before .before .before .args .port) (now (c .before .before .before .before .before .before .before .before .args .enable)) (now (c .before .before .before .before .before .before .before .before .args .address)) (now (c .before .before .before .before .before .before .before .before .args .answer))) (portedOf (c .before .before .before .before .before .before .before .before .args .r) (now (c .before .before .before .before .before .before .before .before .args .words)) (now (c .before .before .before .before .before .before .before .before .args .list)) (now (c .before .before .before .before .before .before .before .before .args .ports))) (read-first (portedOf (c .before .before .before .before .before .before .before .before .args .r) (now (c .before .before .before .before .before .before .before .before .args .words)) (now (c .before .before .before .before .before .before .before .before .args .list)) (now (c .before .before .before .before .before .before .before .before .args .ports))) (c .before .before .before .before .before .before .before .before .args .port) (now (c .before .before .before .before .before .before .before .before .args .enable)) (now (c .before .before .before .before .before .before .before .before .args .address)) (now (c .before .before .before .before .before .before .before .before .args .answer)) (c .before .memory-row .ensures) (c .if1 .taken)) _ (c .if1 .taken); leaves = leaves-words (c .before .memory-row .result) (now (c .before .before .before .before .before .before .before .before .args .answer)) }
 
 cast-n : tie.Need-cast-n
 cast-n c = search needs
@@ -31,32 +32,50 @@ cast-n c = search needs
 cast-w : tie.Need-cast-w
 cast-w c = search needs
 
-mul-if2 : tie.Need-mul-if2
-mul-if2 c = search needs
-
-mul-if2-2 : tie.Need-mul-if2-2
-mul-if2-2 c = search needs
+all-name-nodes-requires : tie.Need-all-name-nodes-requires
+all-name-nodes-requires c κs =
+    let K = memory-valid (portedOf (c .before .before .before .before .before .before .before .before .before .before .before .before .before .args .r) (now (c .before .before .before .before .before .before .before .before .before .before .before .before .before .args .words)) (now (c .before .before .before .before .before .before .before .before .before .before .before .before .before .args .list)) (now (c .before .before .before .before .before .before .before .before .before .before .before .before .before .args .ports))) (c .before .before .before .before .before .before .memory-row .ensures) (c .before .before .before .before .before .if1 .left) in
+    (valid-standard (portedOf (c .before .before .before .before .before .before .before .before .before .before .before .before .before .args .r) (now (c .before .before .before .before .before .before .before .before .before .before .before .before .before .args .words)) (now (c .before .before .before .before .before .before .before .before .before .before .before .before .before .args .list)) (now (c .before .before .before .before .before .before .before .before .before .before .before .before .before .args .ports))) K, valid-few (portedOf (c .before .before .before .before .before .before .before .before .before .before .before .before .before .args .r) (now (c .before .before .before .before .before .before .before .before .before .before .before .before .before .args .words)) (now (c .before .before .before .before .before .before .before .before .before .before .before .before .before .args .list)) (now (c .before .before .before .before .before .before .before .before .before .before .before .before .before .args .ports))) K .1, c .before .held2 .given .0)
 
 same-length-2 : tie.Need-same-length-2
 same-length-2 c = search needs
 
 returns-2 : tie.Need-returns-2
-returns-2 c = record { is = lengths-turned (read (now (c .before .before .before .before .before .before .before .before .before .before .before .args .enable)) (now (c .before .before .before .before .before .before .before .before .before .before .before .args .address)) (now (c .before .before .before .before .before .before .before .before .before .before .before .args .answer))) (stateOf (c .before .before .before .before .before .before .before .before .before .before .before .args .r) (now (c .before .before .before .before .before .before .before .before .before .before .before .args .words)) (now (c .before .before .before .before .before .before .before .before .before .before .before .args .list))) ((eqb (length (now (c .before .before .before .before .before .before .before .before .before .before .before .args .enable))) 2) && (eqb (length (now (c .before .before .before .before .before .before .before .before .before .before .before .args .address))) (2 * c .before .before .before .before .before .before .before .before .before .before .before .args .r .n)) && (eqb (length (now (c .before .before .before .before .before .before .before .before .before .before .before .args .answer))) (2 * c .before .before .before .before .before .before .before .before .before .before .before .args .r .w))) (drop 4 (readRows (recordOf (c .before .before .before .before .before .before .before .before .before .before .before .args .r)) (now (c .before .before .before .before .before .before .before .before .before .before .before .args .words)) (now (c .before .before .before .before .before .before .before .before .before .before .before .args .list)) (now (c .before .before .before .before .before .before .before .before .before .before .before .args .enable)) (now (c .before .before .before .before .before .before .before .before .before .before .before .args .address)) (now (c .before .before .before .before .before .before .before .before .before .before .before .args .answer)))) refl (memory-valid (stateOf (c .before .before .before .before .before .before .before .before .before .before .before .args .r) (now (c .before .before .before .before .before .before .before .before .before .before .before .args .words)) (now (c .before .before .before .before .before .before .before .before .before .before .before .args .list))) (c .before .before .before .before .memory-row .ensures) (c .before .before .before .if1 .left)) (not-true ((eqb (length (now (c .before .before .before .before .before .before .before .before .before .before .before .args .enable))) 2) && (eqb (length (now (c .before .before .before .before .before .before .before .before .before .before .before .args .address))) (2 * c .before .before .before .before .before .before .before .before .before .before .before .args .r .n)) && (eqb (length (now (c .before .before .before .before .before .before .before .before .before .before .before .args .answer))) (2 * c .before .before .before .before .before .before .before .before .before .before .before .args .r .w))) (c .if2 .taken)); leaves = refl }
+returns-2 c =
+    let K = memory-valid (portedOf (c .before .before .before .before .before .before .before .before .before .before .before .before .before .before .before .args .r) (now (c .before .before .before .before .before .before .before .before .before .before .before .before .before .before .before .args .words)) (now (c .before .before .before .before .before .before .before .before .before .before .before .before .before .before .before .args .list)) (now (c .before .before .before .before .before .before .before .before .before .before .before .before .before .before .before .args .ports))) (c .before .before .before .before .before .before .before .before .memory-row .ensures) (c .before .before .before .before .before .before .before .if1 .left) in
+    record { is = turned (read (c .before .before .before .before .before .before .before .before .before .before .before .before .before .before .before .args .port) (now (c .before .before .before .before .before .before .before .before .before .before .before .before .before .before .before .args .enable)) (now (c .before .before .before .before .before .before .before .before .before .before .before .before .before .before .before .args .address)) (now (c .before .before .before .before .before .before .before .before .before .before .before .before .before .before .before .args .answer))) (portedOf (c .before .before .before .before .before .before .before .before .before .before .before .before .before .before .before .args .r) (now (c .before .before .before .before .before .before .before .before .before .before .before .before .before .before .before .args .words)) (now (c .before .before .before .before .before .before .before .before .before .before .before .before .before .before .before .args .list)) (now (c .before .before .before .before .before .before .before .before .before .before .before .before .before .before .before .args .ports))) (read-ports (portedOf (c .before .before .before .before .before .before .before .before .before .before .before .before .before .before .before .args .r) (now (c .before .before .before .before .before .before .before .before .before .before .before .before .before .before .before .args .words)) (now (c .before .before .before .before .before .before .before .before .before .before .before .before .before .before .before .args .list)) (now (c .before .before .before .before .before .before .before .before .before .before .before .before .before .before .before .args .ports))) (c .before .before .before .before .before .before .before .before .before .before .before .before .before .before .before .args .port) (now (c .before .before .before .before .before .before .before .before .before .before .before .before .before .before .before .args .enable)) (now (c .before .before .before .before .before .before .before .before .before .before .before .before .before .before .before .args .address)) (now (c .before .before .before .before .before .before .before .before .before .before .before .before .before .before .before .args .answer)) K (ports-fail (c .before .before .before .before .before .before .before .before .before .before .before .before .before .before .before .args .r) (now (c .before .before .before .before .before .before .before .before .before .before .before .before .before .before .before .args .words)) (now (c .before .before .before .before .before .before .before .before .before .before .before .before .before .before .before .args .ports)) (c .before .all-name-nodes .ensures) (c .if2 .taken))) accepted (λ z. omega arith); leaves = refl }
 
-read-on-requires : tie.Need-read-on-requires
-read-on-requires c κs =
-    let K = (memory-valid (stateOf (c .before .before .before .before .before .before .before .before .before .before .before .before .before .before .args .r) (now (c .before .before .before .before .before .before .before .before .before .before .before .before .before .before .args .words)) (now (c .before .before .before .before .before .before .before .before .before .before .before .before .before .before .args .list))) (c .before .before .before .before .before .before .before .memory-row .ensures) (c .before .before .before .before .before .before .if1 .left)) in
-    let N = and3 (eqb (length (now (c .before .before .before .before .before .before .before .before .before .before .before .before .before .before .args .enable))) 2) (eqb (length (now (c .before .before .before .before .before .before .before .before .before .before .before .before .before .before .args .address))) (2 * c .before .before .before .before .before .before .before .before .before .before .before .before .before .before .args .r .n)) (eqb (length (now (c .before .before .before .before .before .before .before .before .before .before .before .before .before .before .args .answer))) (2 * c .before .before .before .before .before .before .before .before .before .before .before .before .before .before .args .r .w)) (not-false ((eqb (length (now (c .before .before .before .before .before .before .before .before .before .before .before .before .before .before .args .enable))) 2) && (eqb (length (now (c .before .before .before .before .before .before .before .before .before .before .before .before .before .before .args .address))) (2 * c .before .before .before .before .before .before .before .before .before .before .before .before .before .before .args .r .n)) && (eqb (length (now (c .before .before .before .before .before .before .before .before .before .before .before .before .before .before .args .answer))) (2 * c .before .before .before .before .before .before .before .before .before .before .before .before .before .before .args .r .w))) (c .before .before .before .if2 .left)) in
-    (K, zeros-sound _ 32768 (valid-standard (stateOf (c .before .before .before .before .before .before .before .before .before .before .before .before .before .before .args .r) (now (c .before .before .before .before .before .before .before .before .before .before .before .before .before .before .args .words)) (now (c .before .before .before .before .before .before .before .before .before .before .before .before .before .before .args .list))) K), eqb-true _ _ (N .0), eqb-true _ _ (N .1), eqb-true _ _ (N .2))
+mul-if3 : tie.Need-mul-if3
+mul-if3 c = search needs
+
+mul-if3-2 : tie.Need-mul-if3-2
+mul-if3-2 c = search needs
 
 same-length-3 : tie.Need-same-length-3
 same-length-3 c = search needs
 
+returns-3 : tie.Need-returns-3
+returns-3 c =
+    let K = memory-valid (portedOf (c .before .before .before .before .before .before .before .before .before .before .before .before .before .before .before .before .args .r) (now (c .before .before .before .before .before .before .before .before .before .before .before .before .before .before .before .before .args .words)) (now (c .before .before .before .before .before .before .before .before .before .before .before .before .before .before .before .before .args .list)) (now (c .before .before .before .before .before .before .before .before .before .before .before .before .before .before .before .before .args .ports))) (c .before .before .before .before .before .before .before .before .before .memory-row .ensures) (c .before .before .before .before .before .before .before .before .if1 .left) in
+    let long : length (now (c .before .before .before .before .before .before .before .before .before .before .before .before .before .before .before .before .args .ports)) ≡ 128 = c .before .before .before .before .held2 .given .0 in
+    let P : PortsValid (portedOf (c .before .before .before .before .before .before .before .before .before .before .before .before .before .before .before .before .args .r) (now (c .before .before .before .before .before .before .before .before .before .before .before .before .before .before .before .before .args .words)) (now (c .before .before .before .before .before .before .before .before .before .before .before .before .before .before .before .before .args .list)) (now (c .before .before .before .before .before .before .before .before .before .before .before .before .before .before .before .before .args .ports))) = record { three = ports-hold (c .before .before .before .before .before .before .before .before .before .before .before .before .before .before .before .before .args .r) (now (c .before .before .before .before .before .before .before .before .before .before .before .before .before .before .before .before .args .words)) (now (c .before .before .before .before .before .before .before .before .before .before .before .before .before .before .before .before .args .ports)) (c .before .before .all-name-nodes .ensures) (c .before .if2 .left); long = long } in
+    record { is = turned (read (c .before .before .before .before .before .before .before .before .before .before .before .before .before .before .before .before .args .port) (now (c .before .before .before .before .before .before .before .before .before .before .before .before .before .before .before .before .args .enable)) (now (c .before .before .before .before .before .before .before .before .before .before .before .before .before .before .before .before .args .address)) (now (c .before .before .before .before .before .before .before .before .before .before .before .before .before .before .before .before .args .answer))) (portedOf (c .before .before .before .before .before .before .before .before .before .before .before .before .before .before .before .before .args .r) (now (c .before .before .before .before .before .before .before .before .before .before .before .before .before .before .before .before .args .words)) (now (c .before .before .before .before .before .before .before .before .before .before .before .before .before .before .before .before .args .list)) (now (c .before .before .before .before .before .before .before .before .before .before .before .before .before .before .before .before .args .ports))) (read-lengths (portedOf (c .before .before .before .before .before .before .before .before .before .before .before .before .before .before .before .before .args .r) (now (c .before .before .before .before .before .before .before .before .before .before .before .before .before .before .before .before .args .words)) (now (c .before .before .before .before .before .before .before .before .before .before .before .before .before .before .before .before .args .list)) (now (c .before .before .before .before .before .before .before .before .before .before .before .before .before .before .before .before .args .ports))) (c .before .before .before .before .before .before .before .before .before .before .before .before .before .before .before .before .args .port) (now (c .before .before .before .before .before .before .before .before .before .before .before .before .before .before .before .before .args .enable)) (now (c .before .before .before .before .before .before .before .before .before .before .before .before .before .before .before .before .args .address)) (now (c .before .before .before .before .before .before .before .before .before .before .before .before .before .before .before .before .args .answer)) K P (not-true ((eqb (length (now (c .before .before .before .before .before .before .before .before .before .before .before .before .before .before .before .before .args .enable))) 2) && (eqb (length (now (c .before .before .before .before .before .before .before .before .before .before .before .before .before .before .before .before .args .address))) (2 * c .before .before .before .before .before .before .before .before .before .before .before .before .before .before .before .before .args .r .n)) && (eqb (length (now (c .before .before .before .before .before .before .before .before .before .before .before .before .before .before .before .before .args .answer))) (2 * c .before .before .before .before .before .before .before .before .before .before .before .before .before .before .before .before .args .r .w))) (c .if3 .taken))) accepted (λ z. omega arith); leaves = refl }
+
+read-on-requires : tie.Need-read-on-requires
+read-on-requires c κs =
+    let K = memory-valid (portedOf (c .before .before .before .before .before .before .before .before .before .before .before .before .before .before .before .before .before .before .before .before .args .r) (now (c .before .before .before .before .before .before .before .before .before .before .before .before .before .before .before .before .before .before .before .before .args .words)) (now (c .before .before .before .before .before .before .before .before .before .before .before .before .before .before .before .before .before .before .before .before .args .list)) (now (c .before .before .before .before .before .before .before .before .before .before .before .before .before .before .before .before .before .before .before .before .args .ports))) (c .before .before .before .before .before .before .before .before .before .before .before .before .before .memory-row .ensures) (c .before .before .before .before .before .before .before .before .before .before .before .before .if1 .left) in
+    let long : length (now (c .before .before .before .before .before .before .before .before .before .before .before .before .before .before .before .before .before .before .before .before .args .ports)) ≡ 128 = c .before .before .before .before .before .before .before .before .held2 .given .0 in
+    let N = and3 (eqb (length (now (c .before .before .before .before .before .before .before .before .before .before .before .before .before .before .before .before .before .before .before .before .args .enable))) 2) (eqb (length (now (c .before .before .before .before .before .before .before .before .before .before .before .before .before .before .before .before .before .before .before .before .args .address))) (2 * c .before .before .before .before .before .before .before .before .before .before .before .before .before .before .before .before .before .before .before .before .args .r .n)) (eqb (length (now (c .before .before .before .before .before .before .before .before .before .before .before .before .before .before .before .before .before .before .before .before .args .answer))) (2 * c .before .before .before .before .before .before .before .before .before .before .before .before .before .before .before .before .before .before .before .before .args .r .w)) (not-false ((eqb (length (now (c .before .before .before .before .before .before .before .before .before .before .before .before .before .before .before .before .before .before .before .before .args .enable))) 2) && (eqb (length (now (c .before .before .before .before .before .before .before .before .before .before .before .before .before .before .before .before .before .before .before .before .args .address))) (2 * c .before .before .before .before .before .before .before .before .before .before .before .before .before .before .before .before .before .before .before .before .args .r .n)) && (eqb (length (now (c .before .before .before .before .before .before .before .before .before .before .before .before .before .before .before .before .before .before .before .before .args .answer))) (2 * c .before .before .before .before .before .before .before .before .before .before .before .before .before .before .before .before .before .before .before .before .args .r .w))) (c .before .before .before .before .if3 .left)) in
+    (K, record { three = ports-hold (c .before .before .before .before .before .before .before .before .before .before .before .before .before .before .before .before .before .before .before .before .args .r) (now (c .before .before .before .before .before .before .before .before .before .before .before .before .before .before .before .before .before .before .before .before .args .words)) (now (c .before .before .before .before .before .before .before .before .before .before .before .before .before .before .before .before .before .before .before .before .args .ports)) (c .before .before .before .before .before .before .all-name-nodes .ensures) (c .before .before .before .before .before .if2 .left); long = long }, zeros-sound _ 32768 (valid-standard (portedOf (c .before .before .before .before .before .before .before .before .before .before .before .before .before .before .before .before .before .before .before .before .args .r) (now (c .before .before .before .before .before .before .before .before .before .before .before .before .before .before .before .before .before .before .before .before .args .words)) (now (c .before .before .before .before .before .before .before .before .before .before .before .before .before .before .before .before .before .before .before .before .args .list)) (now (c .before .before .before .before .before .before .before .before .before .before .before .before .before .before .before .before .before .before .before .before .args .ports))) K), eqb-true _ _ (N .0), eqb-true _ _ (N .1), eqb-true _ _ (N .2))
+
 same-length-4 : tie.Need-same-length-4
 same-length-4 c = search needs
 
-returns-3 : tie.Need-returns-3
-returns-3 c = search needs
+same-length-5 : tie.Need-same-length-5
+same-length-5 c = search needs
+
+returns-4 : tie.Need-returns-4
+returns-4 c = search needs
 
 pub read-spec : {M : Type 1} → statement M
 read-spec =
@@ -67,11 +86,14 @@ read-spec =
     returns
     cast-n
     cast-w
-    mul-if2
-    mul-if2-2
+    all-name-nodes-requires
     same-length-2
     returns-2
-    read-on-requires
+    mul-if3
+    mul-if3-2
     same-length-3
+    returns-3
+    read-on-requires
     same-length-4
-    returns-3)
+    same-length-5
+    returns-4)

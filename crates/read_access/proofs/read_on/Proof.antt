@@ -1,6 +1,6 @@
 use Rattle.read_access.proofs.ReadLaws.{read-holds, leaves-words}
 use Rattle.rows.proofs.CallLaws.{turned-on}
-use Rattle.rows.specs.Contract.{stateOf}
+use Rattle.rows.specs.Contract.{portedOf}
 use Rattle.model.specs.Step.{read}
 use denote.Ref.{now}
 use lib.ListN.{length-take}
@@ -22,8 +22,8 @@ same-length-2 c = search needs
 
 returns : tie.Need-returns
 returns c =
-    let T = turned-on (read (now (c .before .before .before .before .before .before .before .before .before .args .enable)) (now (c .before .before .before .before .before .before .before .before .before .args .address)) (now (c .before .before .before .before .before .before .before .before .before .args .answer))) (stateOf (c .before .before .before .before .before .before .before .before .before .args .r) (now (c .before .before .before .before .before .before .before .before .before .args .words)) (now (c .before .before .before .before .before .before .before .before .before .args .list))) (c .before .read-row .ensures) _ (c .if1 .taken) in
-    record { is = record { is = T .is; leaves = leaves-words (c .before .read-row .result) (now (c .before .before .before .before .before .before .before .before .before .args .answer)) }; sound = T .sound }
+    let T = turned-on (read (c .before .before .before .before .before .before .before .before .before .before .args .port) (now (c .before .before .before .before .before .before .before .before .before .before .args .enable)) (now (c .before .before .before .before .before .before .before .before .before .before .args .address)) (now (c .before .before .before .before .before .before .before .before .before .before .args .answer))) (portedOf (c .before .before .before .before .before .before .before .before .before .before .args .r) (now (c .before .before .before .before .before .before .before .before .before .before .args .words)) (now (c .before .before .before .before .before .before .before .before .before .before .args .list)) (now (c .before .before .before .before .before .before .before .before .before .before .args .ports))) (c .before .read-row .ensures) _ (c .if1 .taken) in
+    record { is = record { is = T .is; leaves = leaves-words (c .before .read-row .result) (now (c .before .before .before .before .before .before .before .before .before .before .args .answer)) }; sound = T .sound }
 
 cast-w : tie.Need-cast-w
 cast-w c = search needs
@@ -33,19 +33,19 @@ mul-word c = search needs
 
 array-borrow-prefix-word : tie.Need-array-borrow-prefix-word
 array-borrow-prefix-word c =
-    let H = read-holds (c .before .before .before .before .before .before .before .before .before .before .before .before .before .args .r) (now (c .before .before .before .before .before .before .before .before .before .before .before .before .before .args .words)) (now (c .before .before .before .before .before .before .before .before .before .before .before .before .before .args .list)) (now (c .before .before .before .before .before .before .before .before .before .before .before .before .before .args .enable)) (now (c .before .before .before .before .before .before .before .before .before .before .before .before .before .args .address)) (now (c .before .before .before .before .before .before .before .before .before .before .before .before .before .args .answer)) (sym (c .before .before .before .before .before .read-row .ensures) ∙ c .before .before .before .before .if1 .left) in
+    let H = read-holds (c .before .before .before .before .before .before .before .before .before .before .before .before .before .before .before .args .r) (now (c .before .before .before .before .before .before .before .before .before .before .before .before .before .before .before .args .words)) (now (c .before .before .before .before .before .before .before .before .before .before .before .before .before .before .before .args .list)) (now (c .before .before .before .before .before .before .before .before .before .before .before .before .before .before .before .args .ports)) (c .before .before .before .before .before .before .before .before .before .before .before .before .before .before .before .args .port) (now (c .before .before .before .before .before .before .before .before .before .before .before .before .before .before .before .args .enable)) (now (c .before .before .before .before .before .before .before .before .before .before .before .before .before .before .before .args .address)) (now (c .before .before .before .before .before .before .before .before .before .before .before .before .before .before .before .args .answer)) (c .before .before .before .before .before .before .before .before .before .before .before .before .before .before .before .pre .1 .long) (sym (c .before .before .before .before .before .before .read-row .ensures) ∙ c .before .before .before .before .before .if1 .left) in
     omega (arith, H .wide)
 
 slice-aggregate-read-into : tie.Need-slice-aggregate-read-into
 slice-aggregate-read-into c =
-    let H = read-holds (c .before .before .before .before .before .before .before .before .before .before .before .before .before .before .args .r) (now (c .before .before .before .before .before .before .before .before .before .before .before .before .before .before .args .words)) (now (c .before .before .before .before .before .before .before .before .before .before .before .before .before .before .args .list)) (now (c .before .before .before .before .before .before .before .before .before .before .before .before .before .before .args .enable)) (now (c .before .before .before .before .before .before .before .before .before .before .before .before .before .before .args .address)) (now (c .before .before .before .before .before .before .before .before .before .before .before .before .before .before .args .answer)) (sym (c .before .before .before .before .before .before .read-row .ensures) ∙ c .before .before .before .before .before .if1 .left) in
+    let H = read-holds (c .before .before .before .before .before .before .before .before .before .before .before .before .before .before .before .before .args .r) (now (c .before .before .before .before .before .before .before .before .before .before .before .before .before .before .before .before .args .words)) (now (c .before .before .before .before .before .before .before .before .before .before .before .before .before .before .before .before .args .list)) (now (c .before .before .before .before .before .before .before .before .before .before .before .before .before .before .before .before .args .ports)) (c .before .before .before .before .before .before .before .before .before .before .before .before .before .before .before .before .args .port) (now (c .before .before .before .before .before .before .before .before .before .before .before .before .before .before .before .before .args .enable)) (now (c .before .before .before .before .before .before .before .before .before .before .before .before .before .before .before .before .args .address)) (now (c .before .before .before .before .before .before .before .before .before .before .before .before .before .before .before .before .args .answer)) (c .before .before .before .before .before .before .before .before .before .before .before .before .before .before .before .before .pre .1 .long) (sym (c .before .before .before .before .before .before .before .read-row .ensures) ∙ c .before .before .before .before .before .before .if1 .left) in
     simp length-take (omega (arith, H .wide))
 
 read-into-requires : tie.Need-read-into-requires
 read-into-requires c κs =
-    let p = c .before .before .before .before .before .before .before .before .before .before .before .before .before .before .pre in
-    let H = read-holds (c .before .before .before .before .before .before .before .before .before .before .before .before .before .before .args .r) (now (c .before .before .before .before .before .before .before .before .before .before .before .before .before .before .args .words)) (now (c .before .before .before .before .before .before .before .before .before .before .before .before .before .before .args .list)) (now (c .before .before .before .before .before .before .before .before .before .before .before .before .before .before .args .enable)) (now (c .before .before .before .before .before .before .before .before .before .before .before .before .before .before .args .address)) (now (c .before .before .before .before .before .before .before .before .before .before .before .before .before .before .args .answer)) (sym (c .before .before .before .before .before .before .read-row .ensures) ∙ c .before .before .before .before .before .if1 .left) in
-    (sym (c .before .before .before .before .before .before .read-row .ensures) ∙ c .before .before .before .before .before .if1 .left, p .1, simp length-take (omega (arith, H .wide)))
+    let p = c .before .before .before .before .before .before .before .before .before .before .before .before .before .before .before .before .pre in
+    let H = read-holds (c .before .before .before .before .before .before .before .before .before .before .before .before .before .before .before .before .args .r) (now (c .before .before .before .before .before .before .before .before .before .before .before .before .before .before .before .before .args .words)) (now (c .before .before .before .before .before .before .before .before .before .before .before .before .before .before .before .before .args .list)) (now (c .before .before .before .before .before .before .before .before .before .before .before .before .before .before .before .before .args .ports)) (c .before .before .before .before .before .before .before .before .before .before .before .before .before .before .before .before .args .port) (now (c .before .before .before .before .before .before .before .before .before .before .before .before .before .before .before .before .args .enable)) (now (c .before .before .before .before .before .before .before .before .before .before .before .before .before .before .before .before .args .address)) (now (c .before .before .before .before .before .before .before .before .before .before .before .before .before .before .before .before .args .answer)) (c .before .before .before .before .before .before .before .before .before .before .before .before .before .before .before .before .pre .1 .long) (sym (c .before .before .before .before .before .before .before .read-row .ensures) ∙ c .before .before .before .before .before .before .if1 .left) in
+    (sym (c .before .before .before .before .before .before .before .read-row .ensures) ∙ c .before .before .before .before .before .before .if1 .left, p .2, simp length-take (omega (arith, H .wide)), p .1 .long)
 
 same-length-3 : tie.Need-same-length-3
 same-length-3 c = search needs

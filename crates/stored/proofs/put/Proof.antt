@@ -1,9 +1,11 @@
+use lib.ListN.{length}
+use mathlib.Core.Path.{_≡_}
 use borrow.Author.Needs.{needs}
 use Rattle.stored.proofs.put.Statement.{statement}
 use Rattle.stored.proofs.put.Tie as tie
 
 abbrev Inv-loop : tie.InvT-loop
-Inv-loop x to₀ at₀ word₀ left₀ to at word left = Unit {0}
+Inv-loop x to₀ at₀ word₀ left₀ to at word left = length to ≡ length to₀
 
 abbrev μ-loop : tie.MeasureT-loop
 μ-loop x to₀ at₀ word₀ left₀ to at word left = left
@@ -11,14 +13,8 @@ abbrev μ-loop : tie.MeasureT-loop
 loop-holds : tie.Need-loop-holds Inv-loop μ-loop
 loop-holds c = search needs
 
-cast-to : tie.Need-cast-to Inv-loop μ-loop
-cast-to c = search needs
-
-mul-to : tie.Need-mul-to Inv-loop μ-loop
-mul-to c = search needs
-
-element-write-to : tie.Need-element-write-to Inv-loop μ-loop
-element-write-to c = search needs
+put-word-requires : tie.Need-put-word-requires Inv-loop μ-loop
+put-word-requires c κs = search needs
 
 wrapping-add-u32-requires : tie.Need-wrapping-add-u32-requires Inv-loop μ-loop
 wrapping-add-u32-requires c κs = search needs
@@ -35,6 +31,9 @@ loop-less c = search needs
 loop-again : tie.Need-loop-again Inv-loop μ-loop
 loop-again c = search needs
 
+same-length : tie.Need-same-length Inv-loop μ-loop
+same-length c = search needs
+
 returns : tie.Need-returns Inv-loop μ-loop
 returns c = search needs
 
@@ -45,12 +44,11 @@ put-spec =
     Inv-loop
     μ-loop
     loop-holds
-    cast-to
-    mul-to
-    element-write-to
+    put-word-requires
     wrapping-add-u32-requires
     wrapping-add-u32-requires-2
     sub-left
     loop-less
     loop-again
+    same-length
     returns)

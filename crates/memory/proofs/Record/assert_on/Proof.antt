@@ -1,6 +1,6 @@
+use mathlib.Core.Path.{refl}
 use denote.Ref.{now}
 use Rattle.model.specs.Step.{assert}
-use Rattle.memory.specs.Contract.{stateOf}
 use Rattle.memory.proofs.HandLaws.{handed-on}
 use borrow.Author.Needs.{needs}
 use Rattle.memory.proofs.Record.assert_on.Statement.{statement}
@@ -22,7 +22,7 @@ same-length-2 : tie.Need-same-length-2
 same-length-2 c = search needs
 
 returns : tie.Need-returns
-returns c = handed-on (assert (c .before .before .before .before .before .before .before .before .before .before .before .before .before .before .args .b .0) (now (c .before .before .before .before .before .before .before .before .before .before .before .before .before .before .args .address)) (now (c .before .before .before .before .before .before .before .before .before .before .before .before .before .before .args .«data»))) (stateOf (c .before .before .before .before .before .before .before .before .before .before .before .before .before .before .args .self) (now (c .before .before .before .before .before .before .before .before .before .before .before .before .before .before .args .words)) (now (c .before .before .before .before .before .before .before .before .before .before .before .before .before .before .args .list))) (c .assert-result .result .after) _ _ _ (c .assert-result .ensures) (rw (c .before .before .before .before .before .before .before .before .before .fields .ensures) at (c .before .before .before .before .before .assert-on .ensures))
+returns c = handed-on (assert (c .before .before .before .before .before .before .before .before .before .before .before .before .before .before .args .b .0) (now (c .before .before .before .before .before .before .before .before .before .before .before .before .before .before .args .address)) (now (c .before .before .before .before .before .before .before .before .before .before .before .before .before .before .args .«data»))) refl (c .before .before .before .before .before .before .before .before .before .before .before .before .before .before .args .self) (now (c .before .before .before .before .before .before .before .before .before .before .before .before .before .before .args .words)) (now (c .before .before .before .before .before .before .before .before .before .before .before .before .before .before .args .list)) (c .assert-result .result .after) _ _ _ (c .assert-result .ensures) (rw (c .before .before .before .before .before .before .before .before .before .fields .ensures) at (c .before .before .before .before .before .assert-on .ensures))
 
 pub assert-on-spec : {M : Type 1} → statement M
 assert-on-spec =

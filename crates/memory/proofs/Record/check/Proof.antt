@@ -1,6 +1,6 @@
+use mathlib.Core.Path.{refl}
 use denote.Ref.{now}
 use Rattle.model.specs.Step.{check}
-use Rattle.memory.specs.Contract.{stateOf}
 use Rattle.memory.proofs.HandLaws.{handed}
 use borrow.Author.Needs.{needs}
 use Rattle.memory.proofs.Record.check.Statement.{statement}
@@ -19,7 +19,7 @@ same-length : tie.Need-same-length
 same-length c = search needs
 
 returns : tie.Need-returns
-returns c = handed (check (c .before .before .before .before .before .before .before .before .before .before .args .b .0) (now (c .before .before .before .before .before .before .before .before .before .before .args .address)) (now (c .before .before .before .before .before .before .before .before .before .before .args .«data»))) (stateOf (c .before .before .before .before .before .before .before .before .before .before .args .self) (now (c .before .before .before .before .before .before .before .before .before .before .args .words)) (now (c .before .before .before .before .before .before .before .before .before .before .args .list))) (c .check-result .result .after) _ _ _ (c .check-result .ensures) (rw (c .before .before .before .before .before .fields .ensures) at (c .before .before .before .check .ensures))
+returns c = handed (check (c .before .before .before .before .before .before .before .before .before .before .args .b .0) (now (c .before .before .before .before .before .before .before .before .before .before .args .address)) (now (c .before .before .before .before .before .before .before .before .before .before .args .«data»))) refl (c .before .before .before .before .before .before .before .before .before .before .args .self) (now (c .before .before .before .before .before .before .before .before .before .before .args .words)) (now (c .before .before .before .before .before .before .before .before .before .before .args .list)) (c .check-result .result .after) _ _ _ (c .check-result .ensures) (rw (c .before .before .before .before .before .fields .ensures) at (c .before .before .before .check .ensures))
 
 pub check-spec : {M : Type 1} → statement M
 check-spec =

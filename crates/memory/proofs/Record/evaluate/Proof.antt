@@ -1,6 +1,5 @@
 use denote.Ref.{now}
 use Rattle.model.specs.Step.{evaluate}
-use Rattle.memory.specs.Contract.{stateOf}
 use Rattle.memory.proofs.HandLaws.{handed-node}
 use borrow.Author.Needs.{needs}
 use Rattle.memory.proofs.Record.evaluate.Statement.{statement}
@@ -18,7 +17,7 @@ value-result-requires c κs = search needs
 returns : tie.Need-returns
 returns c =
     let A = rw (c .before .before .fields .ensures) at (c .before .evaluate .ensures) in
-    λ l. handed-node (evaluate (c .before .before .before .before .args .f) (c .before .before .before .before .args .a)) (stateOf (c .before .before .before .before .args .self) (now (c .before .before .before .before .args .words)) l) (c .value-result .result .after) _ _ _ (c .value-result .ensures) (A l)
+    λ l. handed-node (evaluate (c .before .before .before .before .args .f) (c .before .before .before .before .args .a)) (c .before .before .before .before .args .self) (now (c .before .before .before .before .args .words)) l (c .value-result .result .after) _ _ (c .value-result .ensures) (A l)
 
 pub evaluate-spec : {M : Type 1} → statement M
 evaluate-spec =

@@ -16,7 +16,7 @@ same-length : tie.Need-same-length
 same-length c = search needs
 
 returns : tie.Need-returns
-returns c = handed-fresh (c .fresh-result .result .after) _ (c .fresh-result .ensures) (rw (c .before .before .before .before .before .fields .ensures) at (c .before .before .before .fresh .ensures))
+returns c = handed-fresh (c .fresh-result .result .after) _ (c .fresh-result .ensures) (rw (c .before .before .before .before .before .before .fields .ensures) at (c .before .before .before .fresh .ensures))
 
 pub fresh-spec : {M : Type 1} → statement M
 fresh-spec =

@@ -1,6 +1,5 @@
 use denote.Ref.{now}
 use Rattle.model.specs.Step.{variable}
-use Rattle.memory.specs.Contract.{stateOf}
 use Rattle.memory.proofs.HandLaws.{handed-node}
 use borrow.Author.Needs.{needs}
 use Rattle.memory.proofs.Record.variable.Statement.{statement}
@@ -21,7 +20,7 @@ same-length c = search needs
 returns : tie.Need-returns
 returns c =
     let A = rw (c .before .before .before .before .before .fields .ensures) at (c .before .before .before .variable .ensures) in
-    λ l. handed-node (variable (c .before .before .before .before .before .before .before .args .v)) (stateOf (c .before .before .before .before .before .before .before .args .self) (now (c .before .before .before .before .before .before .before .args .words)) l) (c .node-result .result .after) _ _ _ (c .node-result .ensures) (A l)
+    λ l. handed-node (variable (c .before .before .before .before .before .before .before .args .v)) (c .before .before .before .before .before .before .before .args .self) (now (c .before .before .before .before .before .before .before .args .words)) l (c .node-result .result .after) _ _ (c .node-result .ensures) (A l)
 
 pub variable-spec : {M : Type 1} → statement M
 variable-spec =

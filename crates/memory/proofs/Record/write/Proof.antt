@@ -1,6 +1,6 @@
+use mathlib.Core.Path.{refl}
 use denote.Ref.{now}
 use Rattle.model.specs.Step.{write}
-use Rattle.memory.specs.Contract.{stateOf}
 use Rattle.memory.proofs.HandLaws.{handed}
 use borrow.Author.Needs.{needs}
 use Rattle.memory.proofs.Record.write.Statement.{statement}
@@ -22,7 +22,7 @@ same-length-2 : tie.Need-same-length-2
 same-length-2 c = search needs
 
 returns : tie.Need-returns
-returns c = handed (write (now (c .before .before .before .before .before .before .before .before .before .before .before .before .before .before .args .enable)) (now (c .before .before .before .before .before .before .before .before .before .before .before .before .before .before .args .address)) (now (c .before .before .before .before .before .before .before .before .before .before .before .before .before .before .args .«data»))) (stateOf (c .before .before .before .before .before .before .before .before .before .before .before .before .before .before .args .self) (now (c .before .before .before .before .before .before .before .before .before .before .before .before .before .before .args .words)) (now (c .before .before .before .before .before .before .before .before .before .before .before .before .before .before .args .list))) (c .write-result .result .after) _ _ _ (c .write-result .ensures) (rw (c .before .before .before .before .before .before .before .before .fields .ensures) at (c .before .before .before .before .before .write .ensures))
+returns c = handed (write (now (c .before .before .before .before .before .before .before .before .before .before .before .before .before .before .args .enable)) (now (c .before .before .before .before .before .before .before .before .before .before .before .before .before .before .args .address)) (now (c .before .before .before .before .before .before .before .before .before .before .before .before .before .before .args .«data»))) refl (c .before .before .before .before .before .before .before .before .before .before .before .before .before .before .args .self) (now (c .before .before .before .before .before .before .before .before .before .before .before .before .before .before .args .words)) (now (c .before .before .before .before .before .before .before .before .before .before .before .before .before .before .args .list)) (c .write-result .result .after) _ _ _ (c .write-result .ensures) (rw (c .before .before .before .before .before .before .before .before .fields .ensures) at (c .before .before .before .before .before .write .ensures))
 
 pub write-spec : {M : Type 1} → statement M
 write-spec =

@@ -3,10 +3,10 @@ use Rattle.memory_test.proofs.calls.repeat.Statement.{statement}
 use Rattle.memory_test.proofs.calls.repeat.Tie as tie
 
 abbrev Inv-loop : tie.InvT-loop
-Inv-loop x nodes₀ list₀ enable address data₀ done₀ left₀ nodes list «data» done left = Unit {0}
+Inv-loop x nodes₀ list₀ ports₀ enable address data₀ done₀ left₀ nodes list ports «data» done left = Unit {0}
 
 abbrev μ-loop : tie.MeasureT-loop
-μ-loop x nodes₀ list₀ enable address data₀ done₀ left₀ nodes list «data» done left = left
+μ-loop x nodes₀ list₀ ports₀ enable address data₀ done₀ left₀ nodes list ports «data» done left = left
 
 loop-holds : tie.Need-loop-holds Inv-loop μ-loop
 loop-holds c = search needs
