@@ -30,5 +30,6 @@ pub use Rattle.conditions.proofs.UserLaws.{user-is, is-user, user-stand
 pub use Rattle.conditions.proofs.ContractLaws.{zeros-sound}
 -- rows 6 and 7
 pub use Rattle.meets.proofs.MeetLaws.{neither-decides, together-decides}
--- canonicity: the text of a condition, and one node for one meaning
+-- canonicity: the text of a condition, what follows it, and one node for one meaning
+pub use Rattle.show.proofs.ShowLaws.{text-first}
 pub use Rattle.show.proofs.TextClaims.{same-text, text-same, text-exactly, node-same-text, one-node}

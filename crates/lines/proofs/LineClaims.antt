@@ -7,49 +7,11 @@ use native.Mathlib.Omega.{arith}
 use borrow.Author.Tests.{ltb-true, ltb-false, eqb-true, eqb-false}
 use lib.Dec.{ltb, eqb}
 use lib.ListN.{length, getD}
-use Rattle.text.proofs.DecimalLaws.{decimal-then}
-use Rattle.conditions.specs.Value.{Tree, leaf, branch, treeOf}
-use Rattle.conditions.specs.Show.{show, textOf, Alike}
-use Rattle.conditions.proofs.Promises.{same-text, text-same}
+use Rattle.text.proofs.ByteLaws.{heads, tails, after}
+use Rattle.conditions.specs.Show.{textOf, Alike}
+use Rattle.conditions.proofs.Promises.{text-first, same-text, text-same}
 use Rattle.lines.specs.Lines.{bitText, bitsText, readWord, readLine, assertWord, assertLine, checkWord, checkLine}
 use Rattle.lines.specs.Claims.{Printed, PrintedWord, CheckLines, AssertLines, ReadLines}
-
-heads : {x y : ℕ} {r s : List ℕ} → x ∷ r ≡ y ∷ s → x ≡ y
-heads e = cc
-
-tails : {x y : ℕ} {r s : List ℕ} → x ∷ r ≡ y ∷ s → r ≡ s
-tails e = cc
-
--- what follows the same bytes
-after : (a : List ℕ) {r s : List ℕ} → a ++ r ≡ a ++ s → r ≡ s
-after [] e = e
-after (x ∷ a) e = after a (tails e)
-
--- a text that begins with a tree's tells the tree, and what follows
-show-first : (a b : Tree) (r s : List ℕ) → show a ++ r ≡ show b ++ s → (a ≡ b) × (r ≡ s)
-unfolding show
-show-first (leaf true) (leaf true) r s e = (refl, tails e)
-show-first (leaf false) (leaf false) r s e = (refl, tails e)
-show-first (leaf true) (leaf false) r s e = absurd (omega (arith, heads e))
-show-first (leaf false) (leaf true) r s e = absurd (omega (arith, heads e))
-show-first (leaf true) (branch v l h) r s e = absurd (omega (arith, heads e))
-show-first (leaf false) (branch v l h) r s e = absurd (omega (arith, heads e))
-show-first (branch v l h) (leaf true) r s e = absurd (omega (arith, heads e))
-show-first (branch v l h) (leaf false) r s e = absurd (omega (arith, heads e))
-show-first (branch v l h) (branch v′ l′ h′) r s e =
-    let d = decimal-then v v′ 32 32 _ _ (omega arith) (omega arith) (tails (simp append-assoc at e)) in
-    let p = show-first l l′ _ _ (d .2) in
-    let q = show-first h h′ _ _ (tails (p .1)) in
-    let ev = d .0 in
-    let el = p .0 in
-    let eh = q .0 in
-    (cc, tails (q .1))
-
--- so a text that begins with a condition's tells the condition's text, and what follows
-text-first : (w w′ : List ℕ) (n n′ : ℕ) (r s : List ℕ) → textOf w n ++ r ≡ textOf w′ n′ ++ s → (textOf w n ≡ textOf w′ n′) × (r ≡ s)
-text-first w w′ n n′ r s e =
-    let p = show-first (treeOf w n) (treeOf w′ n′) r s e in
-    (ap show (p .0), p .1)
 
 -- conditions that are alike have the same text
 alike-text : {w w′ : List ℕ} {c c′ n n′ : ℕ} → Printed w c n → Printed w′ c′ n′ → Alike w n w′ n′ → textOf w n ≡ textOf w′ n′

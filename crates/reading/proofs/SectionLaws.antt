@@ -20,13 +20,13 @@ use Rattle.model.specs.Rows.{firstRow, row1}
 use Rattle.model.specs.Step.{State, freshRecord}
 use Rattle.model.specs.Claims.{Begins}
 use Rattle.model.specs.Frames.{Valid, PortsValid}
-use Rattle.model.proofs.FactLaws.{rows-hold, row1-tells}
+use Rattle.model.proofs.FactLaws.{rows-hold, first-append, row1-tells}
 use Rattle.model.proofs.ValidLaws.{no-entries, users-ports}
 use Rattle.reading.specs.declared.Loaded.{Loaded}
 use Rattle.reading.specs.declared.Loaded.the-variants.{Ready}
 use Rattle.reading.specs.Bytes.{numberAt}
 use Rattle.reading.specs.Sections.{withNodes, Sections, ready, refused, sectionsOf, firstRecord, sectionsUnless, wordsUnless, nodesIn, stored, recordIn, earlyRows, lateRows, sections, nodesEnd, accessesIn, firstAt}
-use Rattle.reading.proofs.RowLaws.{rows-refuse, rows-pass, rows-number}
+use Rattle.reading.proofs.RowLaws.{rows-refuse, rows-number}
 
 -- of row 2's tests of the count, what is left for a count from 2 up
 pub room-is : (words : List ℕ) (k : ℕ) {c : ℕ} → c ≡ capacityOf words → (leb 6 (length words) && leb (k + 2) c) ≡ counted words (k + 2)
@@ -117,18 +117,18 @@ module _ (file words : List ℕ) where
 
     pub not-standard : not b ≡ true → (ws, refused 2) ≡ sections file words
     unfolding sections
-    not-standard u = rw (o, rows-pass (earlyRows file words) (lateRows file words) refl o, test-fails form-same u, ← stored-is)
+    not-standard u = rw (o, first-append (earlyRows file words) (lateRows file words) refl o, test-fails form-same u, ← stored-is)
 
     module _ (u : not b ≡ false) where
       pub no-accesses : length file - (nodesEnd k) < 2 → (ws, refused 10) ≡ sections file words
       unfolding sections
-      no-accesses l = rw (o, rows-pass (earlyRows file words) (lateRows file words) refl o, test-holds form-same u, ← stored-is, ← ek, lt-leb (nodesEnd k + 2) (length file) (omega arith))
+      no-accesses l = rw (o, first-append (earlyRows file words) (lateRows file words) refl o, test-holds form-same u, ← stored-is, ← ek, lt-leb (nodesEnd k + 2) (length file) (omega arith))
 
       pub all-read : 2 ≤ length file - (nodesEnd k) → {n w m : ℕ} → n ≡ getD file 0 0 → w ≡ getD file 1 0 → m ≡ numberAt file (nodesEnd k)
           → (ws, ready n w (k + 2) m (nodesEnd k + 2)) ≡ sections file words
       unfolding sections
       all-read l en ew em =
-          rw (o, rows-pass (earlyRows file words) (lateRows file words) refl o, test-holds form-same u, ← stored-is, ← ek, le-leb (nodesEnd k + 2) (length file) (omega arith), en, ew, em)
+          rw (o, first-append (earlyRows file words) (lateRows file words) refl o, test-holds form-same u, ← stored-is, ← ek, le-leb (nodesEnd k + 2) (length file) (omega arith), en, ew, em)
 
 -- what is known of sections that are read
 pub record SectionsRead (file words ws : List ℕ) (n w count accesses at : ℕ) : Type 0 where

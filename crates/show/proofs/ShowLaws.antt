@@ -6,6 +6,7 @@ use Prim.Native.Nat.{ℕ, zero, suc, _+_, _<_, _≤_}
 use native.Mathlib.Omega.{arith}
 use Rattle.text.specs.Text.{Out, appended}
 use Rattle.text.specs.Decimal.{decimal}
+use Rattle.text.proofs.ByteLaws.{heads, tails}
 use Rattle.text.proofs.TextLaws.{appended-append}
 use Rattle.text.proofs.DecimalLaws.{decimal-then}
 use Rattle.nodes.specs.Words.{varAt, lowAt, highAt}
@@ -13,12 +14,6 @@ use Rattle.nodes.specs.Standard.{Standard}
 use Rattle.diagrams.specs.Value.{Tree, leaf, branch, treeOf}
 use Rattle.show.specs.Show.{show, textOf}
 use Rattle.diagrams.proofs.ValueLaws.{tree-end, tree-node}
-
-heads : {x y : ℕ} {r s : List ℕ} → x ∷ r ≡ y ∷ s → x ≡ y
-heads e = cc
-
-tails : {x y : ℕ} {r s : List ℕ} → x ∷ r ≡ y ∷ s → r ≡ s
-tails e = cc
 
 -- a text that begins with a tree's tells the tree, and what follows
 show-first : (a b : Tree) (r s : List ℕ) → show a ++ r ≡ show b ++ s → (a ≡ b) × (r ≡ s)
@@ -39,6 +34,12 @@ show-first (branch v l h) (branch v′ l′ h′) r s e =
     let el = p .0 in
     let eh = q .0 in
     (cc, tails (q .1))
+
+-- so a text that begins with a condition's tells the condition's text, and what follows
+pub text-first : (w w′ : List ℕ) (n n′ : ℕ) (r s : List ℕ) → textOf w n ++ r ≡ textOf w′ n′ ++ s → (textOf w n ≡ textOf w′ n′) × (r ≡ s)
+text-first w w′ n n′ r s e =
+    let p = show-first (treeOf w n) (treeOf w′ n′) r s e in
+    (ap show (p .0), p .1)
 
 pub show-injective : (a b : Tree) → show a ≡ show b → a ≡ b
 show-injective a b e = show-first a b [] [] (ap (λ (l : List ℕ). l ++ []) e) .0
