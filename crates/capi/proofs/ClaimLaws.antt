@@ -5,10 +5,9 @@ use mathlib.Core.List.{List, [], _∷_}
 use native.Mathlib.Omega.{arith}
 use Prim.Native.Nat.{ℕ, zero, suc}
 use lib.ListN.{length}
-use Rattle.model.specs.Record as model
-use Rattle.model.specs.Step.{State, Call, Answer, refused, done, isRefused, step, freshRows, freshRecord, freshUnless, fresh}
-use Rattle.model.specs.Frames.{clears, wordsAfter, numbers, RefusalLeaves, RefusalNumber}
-use Rattle.model.proofs.FrameLaws.{refusal-leaves, refusal-number}
+use Rattle.model.specs.Step.{State, Call, Answer, refused, done, isRefused, step}
+use Rattle.model.specs.Frames.{clears, wordsAfter, numbers, RefusalLeaves, RefusalNumber, FreshLeaves}
+use Rattle.model.proofs.FrameLaws.{refusal-leaves, refusal-number, fresh-leaves}
 use Rattle.capi.specs.Words.{recordIn, wordsOf, stateIn}
 use Rattle.capi.specs.Contract.{numberOf, left, leftBy, called, freshBy, freshed}
 use Rattle.capi.specs.Claims.{ZeroAccepts, RefusedLeaves, FreshRefused}
@@ -50,10 +49,7 @@ pub refused-leaves : RefusedLeaves
 unfolding RefusedLeaves called
 refused-leaves c r w l ps a v k six e = refused-as c r w l ps a v k six (numbered-refused (step c (stateIn r w l ps) .answer) k e)
 
-fresh-unless : (j : ℕ) (g : model.Record) (r ws ps : List ℕ) (k : ℕ) → length r ≡ 6 → freshBy (freshUnless j (recordIn r) g ws ps) .0 ≡ suc k → freshBy (freshUnless j (recordIn r) g ws ps) ≡ (suc k, r, ws, ps)
-fresh-unless zero g r ws ps k six e = absurd (omega (arith, e))
-fresh-unless (suc j) g r ws ps k six e = ap (λ (z : ℕ). (z, wordsOf (recordIn r), ws, ps)) e ∙ ap (λ (z : List ℕ). (suc k, z, ws, ps)) (words-back r six)
-
 pub fresh-refused : FreshRefused
-unfolding FreshRefused freshed fresh
-fresh-refused n w r ws ps k six e = fresh-unless (freshRows n w ws) (freshRecord n w) r ws ps k six e
+unfolding FreshRefused freshed FreshLeaves
+fresh-refused n w r ws ps k six e =
+    ap freshBy (fresh-leaves (recordIn r) n w ws ps .0 k e) ∙ ap (λ (z : List ℕ). (suc k, z, ws, ps)) (words-back r six)

@@ -20,7 +20,7 @@ use Rattle.model.specs.Access.{Write, Read, Check}
 use Rattle.model.specs.Rows.{Row, firstRow, users, row1, row8, writeRows, readRows, assertRows, checkRows, evaluateRows, variableRows, iteRows, portsRow}
 use Rattle.model.specs.Step.{State, withWords, write, read, assert, check, evaluate, variable, ite, Call, access, nodeCall, Given, place, filled, entered, kept, accepted, node, Answer, refused, done, isRefused, Filling, fills, fillsNone, filling, Result, refusal, turnedDown, Finish, full, short, gives, closed, unlessFull, begin, grown, withEntry, withAssertCondition, assertFirst, enter, finishAccess, finishNode, finish, turnedDownBy, step, run, fresh, freshRows, freshUnless, freshRecord, withHeld}
 use Rattle.model.specs.Claims.{pairs}
-use Rattle.model.specs.Frames.{clears, wordsAfter, RefusalLeaves, RefusalNumber, Extended, SuccessLeaves, Valid, StaysValid, NoRow123, FreshValid, FreshNoRow123, writeOrAssert, acceptedWrites, CountAtMost, numbers, portsAfter, PortsLeft, PortsValid, PortsStayValid, freshState}
+use Rattle.model.specs.Frames.{clears, wordsAfter, RefusalLeaves, RefusalNumber, Extended, SuccessLeaves, Valid, StaysValid, NoRow123, FreshLeaves, FreshValid, FreshNoRow123, writeOrAssert, acceptedWrites, CountAtMost, numbers, portsAfter, PortsLeft, PortsValid, PortsStayValid, freshState}
 use Rattle.model.proofs.MeansLaws.{Means, user-means}
 use Rattle.model.proofs.AccessLaws.{write-means}
 use Rattle.model.proofs.FactLaws.{row1-tells, names, users-tell, space-room, write-facts, read-facts, check-facts, assert-facts, variable-facts, ite-facts, fresh-told}
@@ -263,6 +263,18 @@ pub no-row-123 : NoRow123
 unfolding NoRow123 run
 no-row-123 [] c s k H P e = step-leaves c s .refuses k e .late H P
 no-row-123 (d ∷ cs) c s k H P e = no-row-123 cs c (step d s .after) k (step-leaves d s .valid H) (step-leaves d s .ports-valid H P) e
+
+pub fresh-leaves : FreshLeaves
+unfolding FreshLeaves fresh
+fresh-leaves given n w ws ps = (refusing (freshRows n w ws), taking (freshRows n w ws))
+  where
+    refusing : (j k : ℕ) → freshUnless j given (freshRecord n w) ws ps .answer ≡ suc k → freshUnless j given (freshRecord n w) ws ps ≡ record { answer = suc k; rec = given; words = ws; ports = ps }
+    refusing zero k e = absurd (omega arith)
+    refusing (suc j) k e = ap (λ (z : ℕ). freshUnless z given (freshRecord n w) ws ps) e
+
+    taking : (j : ℕ) → freshUnless j given (freshRecord n w) ws ps .answer ≡ 0 → freshUnless j given (freshRecord n w) ws ps ≡ record { answer = 0; rec = freshRecord n w; words = withTerminals ws; ports = freshPorts }
+    taking zero e = refl
+    taking (suc j) e = absurd (omega arith)
 
 -- what Fresh leaves where rows 1 and 2 accept: no entries, node 1 for both conditions, and node 1 in every port word
 abbrev begun : ℕ → ℕ → List ℕ → List ℕ → State

@@ -4,8 +4,8 @@ use mathlib.Core.Bool.{Bool, true, false, _&&_, _||_}
 use mathlib.Core.List.{List, [], _∷_}
 use Prim.Native.Nat.{ℕ, zero, suc, _+_, _*_, _<_, _≤_}
 use lib.Dec.{eqb, leb}
-use lib.ListN.{length, getD}
-use Rattle.conditions.specs.Stores.{capacityOf, Extends, clearOf}
+use lib.ListN.{length, getD, replicate}
+use Rattle.conditions.specs.Stores.{capacityOf, withTerminals, Extends, clearOf}
 use Rattle.conditions.specs.declared.Store.{Store}
 use Rattle.model.specs.Record.{Record, size, replaced}
 use Rattle.model.specs.Rows.{row1, row2, row3, portsRow}
@@ -125,6 +125,14 @@ PortsStayValid = (c : Call) (s : State) → Valid s → PortsValid s → PortsVa
 -- so that in a run no call meets rows 1 to 3
 unfoldable pub NoRow123 : Type 0
 NoRow123 = (cs : List Call) (c : Call) (s : State) (k : ℕ) → Valid s → PortsValid s → step c (run cs s) .answer ≡ refused k → 4 ≤ k
+
+-- a refused Fresh leaves record, node words and ports as they were; an accepted one "counts 2 and 0, both conditions 1, and the two terminals written", and node 1 in every port word
+unfoldable pub FreshLeaves : Type 0
+FreshLeaves =
+    (given : Record) (n w : ℕ) (ws ps : List ℕ)
+    → ((k : ℕ) → fresh given n w ws ps .answer ≡ suc k → fresh given n w ws ps ≡ record { answer = suc k; rec = given; words = ws; ports = ps })
+    × (fresh given n w ws ps .answer ≡ 0
+    → fresh given n w ws ps ≡ record { answer = 0; rec = record { n = n; w = w; count = 2; entries = 0; asserted = 1; checked = 1 }; words = withTerminals ws; ports = replicate 128 1 })
 
 -- "the record and node words that an accepted Fresh left, and a list of any words", with the ports that it left, are a valid state
 abbrev pub freshState : Record → ℕ → ℕ → List ℕ → List ℕ → List ℕ → State
