@@ -4,7 +4,7 @@ use mathlib.Core.List.{List}
 use Prim.Native.Nat.{ℕ, _+_, _*_, _-_, _<_, _≤_}
 use native.Mathlib.Omega.{arith}
 use native.Mathlib.Decide.{ℕ-discrete}
-use lib.ListN.{length, getD, set, drop, replicate, length-set, length-take, length-drop, length-replicate, getD-replicate}
+use lib.ListN.{length, getD, set, drop, replicate, length-set, length-replicate, getD-replicate}
 use lib.Seq.{getD-set-same, getD-set-other, getD-take, getD-drop}
 use Rattle.conditions.specs.declared.Store.{Store}
 use Rattle.conditions.specs.declared.Built.{Built}
@@ -13,7 +13,7 @@ use Rattle.conditions.specs.Contract.{Sound, Did}
 use Rattle.conditions.proofs.Promises.{next-is, each-end, each-step}
 use Rattle.model.specs.Record.{hAt, lAt, part, entryAt}
 use Rattle.model.specs.Access.{halfStep}
-use Rattle.model.proofs.ListLaws.{entry-word, entry-words}
+use Rattle.model.proofs.ListLaws.{part-length, entry-word, entry-words}
 use Rattle.addresses.specs.Contract.{Nodes, WordDid, shape, Looks}
 
 -- a call after a call
@@ -104,9 +104,6 @@ pub half-goes-on : (f : ℕ → ℕ → Build ℕ) {n : ℕ} {r₀ w₀ : List �
 half-goes-on f {w = w} {k = k} L h len D = word-goes-on L h len (simp length-set) (half-did f w k (L .nodes) D)
 
 -- parts of a slice of nodes
-pub part-length : (l : List ℕ) (a e : ℕ) → a ≤ e → e ≤ length l → length (part l a e) ≡ e - a
-part-length l a e h k = simp (length-take, length-drop) (omega arith)
-
 pub part-nodes : {c : ℕ} {l : List ℕ} (a e : ℕ) → a ≤ e → e ≤ length l → Nodes c l → Nodes c (part l a e)
 part-nodes {l = l} a e h k N = record { at = λ i m. let b : i < e - a = omega (arith, part-length l a e h k) in rw (getD-take (e - a) (drop a l) i 0 b, getD-drop a l i 0) (N .at (a + i) (omega arith)) }
 

@@ -1,10 +1,6 @@
 -- The numbers of an access as its call's control, address and data.
 use mathlib.Core.Path.{_≡_, refl}
 use mathlib.Core.List.{List, [], _∷_}
-use Prim.Native.Nat.{ℕ, _+_, _≤_}
-use native.Mathlib.Omega.{arith}
-use lib.ListN.{length, length-take, length-drop}
-use Rattle.model.specs.Record.{part}
 use Rattle.model.specs.Step.{write, read, assert, check, access}
 use Rattle.reading.specs.declared.Kind.the-variants as kind
 use Rattle.cases.specs.Case.{callOf}
@@ -25,7 +21,3 @@ assert-nodes = refl
 check-nodes : callOf kind.Check 3 1 2 (11 ∷ 21 ∷ 22 ∷ 31 ∷ 32 ∷ 33 ∷ 34 ∷ []) ≡ access (check 11 (21 ∷ 22 ∷ []) (31 ∷ 32 ∷ 33 ∷ 34 ∷ []))
 unfolding callOf
 check-nodes = refl
-
--- k words of a slice
-pub part-size : (l : List ℕ) (a k : ℕ) → a + k ≤ length l → length (part l a (a + k)) ≡ k
-part-size l a k h = simp (length-take, length-drop) (omega arith)

@@ -13,6 +13,7 @@ use Rattle.model.specs.Record.{part, freshPorts}
 use Rattle.model.specs.Rows.{Row, firstRow, writeRows, readRows, assertRows, checkRows, evaluateRows}
 use Rattle.model.specs.Step.{State, Call, refused, refusal, Finish, full, short, gives, finish, step, run}
 use Rattle.model.specs.Frames.{Valid, RefusalNumber, NoRow123, RefusedByRow, lateRow, PortsValid, numbers}
+use Rattle.model.proofs.ListLaws.{part-size}
 use Rattle.model.proofs.FrameLaws.{refusal-number, no-row-123}
 use Rattle.model.proofs.StayLaws.{refused-by-row}
 use Rattle.reading.specs.declared.Kind.{Kind}
@@ -28,7 +29,6 @@ use Rattle.reading.proofs.RowLaws.{rows-number}
 use Rattle.reading.proofs.SectionLaws.{sections-read, sections-valid, sections-ports-valid}
 use Rattle.cases.specs.Case.{callOf}
 use Rattle.cases.specs.Claims.{stateIn, AllAccepted, SectionsReady, firstCalls, byteAfter, answerAfter, RefusedAt, missing, refusedCall, lineOver, bytesLeft, endOver, CaseRefused, CaseNumber, RefusedNumbers}
-use Rattle.cases.proofs.CallLaws.{part-size}
 use Rattle.cases.proofs.CaseLaws.{same-sizes}
 use Rattle.cases.proofs.RefusedLaws.{case-refused-after}
 

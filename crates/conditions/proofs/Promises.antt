@@ -11,7 +11,7 @@ pub use Rattle.conditions.proofs.BuildLaws.{from-less, from-stays, from
 -- standard form as a test and as facts, each the other; the two terminals alone; clearing
 pub use Rattle.nodes.proofs.StandardLaws.{standard-is, is-standard}
 pub use Rattle.nodes.proofs.GrowthLaws.{terminals-standard, clear-standard}
-pub use Rattle.nodes.proofs.ClearLaws.{clear-length, clear-below, clear-zero, clear-past}
+pub use Rattle.nodes.proofs.ClearLaws.{clear-length, clear-below, clear-zero, clear-past, clear-extends}
 -- programs: an answer, a step after a step, what is kept on the way
 pub use Rattle.conditions.proofs.BuildLaws.{pure-builds, next-builds, builds-weaker, builds-same, builds-clear, was-free, keep, clear-keep, next-is, each-builds, each-end, each-step}
 -- meanings

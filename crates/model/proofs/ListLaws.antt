@@ -28,6 +28,13 @@ next-words r j = rw add-one (suc-mul j (size r))
 pub entry-words : (r : Record) (j k : ℕ) → j < r .entries → k < size r → j * size r + k < r .entries * size r
 entry-words r j k h i = omega (arith, mul-le-mul-right (size r) h, suc-mul j (size r))
 
+-- the size of a part, and of one of k words
+pub part-length : (l : List ℕ) (a e : ℕ) → a ≤ e → e ≤ length l → length (part l a e) ≡ e - a
+part-length l a e h k = simp (length-take, length-drop) (omega arith)
+
+pub part-size : (l : List ℕ) (a k : ℕ) → a + k ≤ length l → length (part l a (a + k)) ≡ k
+part-size l a k h = part-length l a (a + k) (omega arith) h ∙ (omega arith)
+
 -- reading a part, and an entry
 pub part-word : (l : List ℕ) (a e k : ℕ) → k < e - a → getD (part l a e) k 0 ≡ getD l (a + k) 0
 part-word l a e k h = getD-take (e - a) (drop a l) k 0 h ∙ getD-drop a l k 0

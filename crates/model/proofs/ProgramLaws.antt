@@ -1,16 +1,16 @@
 -- What an accepted access builds, of a memory by its values; and that clearing after it is clearing the words at entry.
-use mathlib.Core.Path.{_≡_, sym}
-use mathlib.Core.Bool.{Bool, false, not, _&&_, true≢false}
+use mathlib.Core.Path.{_≡_}
+use mathlib.Core.Bool.{Bool, false, not, _&&_}
 use mathlib.Core.List.{List, []}
 use Prim.Native.Nat.{ℕ, _*_, _<_}
 use native.Mathlib.Omega.{arith}
 use lib.ListN.{length, getD}
-use Rattle.conditions.specs.Stores.{Standard, Extends, clearOf}
+use Rattle.conditions.specs.Stores.{Standard, clearOf}
 use Rattle.conditions.specs.declared.Store.{Store}
 use Rattle.conditions.specs.Build.{Outcome}
 use Rattle.conditions.specs.Value.{value}
 use Rattle.conditions.specs.Meaning.{Builds}
-use Rattle.conditions.proofs.Promises.{builds-clear, extends-trans, is-user}
+use Rattle.conditions.proofs.Promises.{clear-extends, extends-trans, is-user}
 use Rattle.model.specs.Record.{Record, withCount, heldWord}
 use Rattle.model.specs.Access.{Marks, Write, Read, AssertBuilt, Check}
 use Rattle.model.specs.Published.{entry, answer, assertHolds, checkHolds, keeps}
@@ -25,12 +25,6 @@ use Rattle.model.proofs.RowLaws.{length-pairs, name-means, names-halves
 use Rattle.model.proofs.FactLaws.{names, users-tell}
 use Rattle.model.proofs.EntryLaws.{holds-values}
 use Rattle.model.proofs.ValidLaws.{user-grows, users-stay}
-
--- whatever grew past the count is gone when it is cleared
-grown-clear : {w w′ : List ℕ} {c c′ : ℕ} → Extends w c w′ c′ → Standard w′ c′ → clearOf w′ c ≡ clearOf w c
-grown-clear {w} {w′} {c} {c′} E S =
-    let X : Builds {A = ℕ} w (record { count = c; full = false }) (λ w s n. Unit {0}) (record { words = w′; store = record { count = c′; full = false }; answer = 0 }) = record { standard = S; extends = E; stuck = λ e. absurd (true≢false (sym e)); post = tt } in
-    builds-clear X
 
 module _ (σ : ℕ → Bool) (s : State) where
   abbrev r : Record
@@ -83,4 +77,4 @@ module _ (σ : ℕ → Bool) (s : State) where
         let Y = write-means (r .n) b v a (record { h = value (x .words) σ b; l = value (x .words) σ v }) (pairs σ (x .words) a (r .n)) [] (length-pairs σ (x .words) a 0 (r .n)) (x .words) t (X .standard)
         (user-means {s = t} (X .standard) (user-grows (X .extends) b (names r w b .so (F .control)))) (user-means {s = t} (X .standard) (is-user (x .words) (t .count) v (X .post .notB .below) (X .post .notB .from)))
         (names-halves σ T (x .words) (X .standard) a (r .n) (users-tell T (x .words) a (2 * r .n) (F .address .long) .is (users-stay s (x .words) (t .count) (r .asserted) (r .checked) (user-grows (X .extends)) a ua))) in
-        grown-clear (extends-trans (X .extends) (Y .extends)) (Y .standard)
+        clear-extends _ _ _ _ (extends-trans (X .extends) (Y .extends)) (Y .standard)

@@ -4,7 +4,7 @@ use mathlib.Core.Bool.{Bool, true, false, _&&_, not}
 use mathlib.Core.List.{List, [], _++_, append-nil, _∷_}
 use Prim.Native.Nat.{ℕ, zero, suc, _+_, _*_, _<_, _≤_, _-_}
 use native.Mathlib.Omega.{arith}
-use lib.ListN.{length, getD, take, drop, drop-of-length-le, length-take, length-drop}
+use lib.ListN.{length, getD, take, drop, drop-of-length-le}
 use borrow.Author.Tests.{eq-eqb, lt-leb, le-leb, not-true, not-false}
 use Rattle.nodes.proofs.BoolLaws.{both-and}
 use Rattle.conditions.specs.Stores.{clearOf}
@@ -22,7 +22,7 @@ use Rattle.rows.specs.declared.Fields.{Fields}
 use Rattle.rows.specs.Contract.{recordOf, stateOf, unlessRefused, argumentRows, portedOf}
 use Rattle.rows.proofs.CallLaws.{valid-rows, row-passes, same-rows, no-users, no-pairs, facts-look}
 use lib.Dec.{eqb}
-use Rattle.model.proofs.PortLaws.{held-at}
+use Rattle.model.proofs.PortLaws.{held-at, held-length}
 use Rattle.nodes.specs.Search.{every}
 use Rattle.conditions.specs.User.{isUser}
 
@@ -115,9 +115,6 @@ read-holds r w l ps p e a out long z =
       word = F .answer-long;
       clears = builds-clear (read-program (λ k. false) (portedOf r w l ps) p e a out F);
     }
-  where
-    held-length : (r : model.Record) (ps : List ℕ) (p : ℕ) → length ps ≡ 128 → r .w ≤ 16 → p ≤ 3 → length (model.heldWord r ps p) ≡ 2 * r .w
-    held-length r ps p long wide port = length-take (p * 32 + 2 * r .w - p * 32) (drop (p * 32) ps) ∙ (omega (arith, length-drop (p * 32) ps, long))
 
 -- a read goes by n, w and the number of entries of its record
 pub read-shape : (r : Fields) (l held : List ℕ) (h m : ℕ) (a w : List ℕ) (s : Store) → built.Read (shape (r .n) (r .w) (r .entries)) l held h m a w s ≡ built.Read (recordOf r) l held h m a w s

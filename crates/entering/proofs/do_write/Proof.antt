@@ -1,6 +1,6 @@
 use Rattle.entering.proofs.StepLaws.{any-as, step-on, step-stop}
 use Rattle.entering.proofs.WordLaws.{valid-ported}
-use Rattle.cases.proofs.CallLaws.{part-size}
+use Rattle.model.proofs.ListLaws.{part-size}
 use Rattle.memory.specs.Contract.{writeAnswer}
 use Rattle.cases.specs.Case.{callOf}
 use Rattle.text.specs.Text.{out}

@@ -1,6 +1,6 @@
 use mathlib.Core.List.{[]}
 use Rattle.entering.proofs.WordLaws.{valid-ported, checked-below}
-use Rattle.cases.proofs.CallLaws.{part-size}
+use Rattle.model.proofs.ListLaws.{part-size}
 use Rattle.entering.proofs.StepLaws.{any-as, step-on, step-stop}
 use Rattle.memory.specs.Contract.{checkAnswer}
 use Rattle.cases.specs.Case.{callOf}

@@ -1,6 +1,6 @@
 use Rattle.entering.proofs.WordLaws.{valid-ported}
 use Rattle.looking.proofs.ReadLaws.{word-below}
-use Rattle.cases.proofs.CallLaws.{part-size}
+use Rattle.model.proofs.ListLaws.{part-size}
 use Rattle.looking.proofs.ReadLaws.{read-filled, read-refused}
 use Rattle.entering.proofs.StepLaws.{step-on, step-stop}
 use lib.ListN.{length-replicate}

@@ -3,7 +3,8 @@ use Prim.Native.Nat.{_+_, _*_, _≤_}
 use native.Mathlib.Omega.{arith}
 use Rattle.conditions.proofs.Promises.{next-is}
 use Rattle.model.specs.Access.{entryStep}
-use Rattle.addresses.proofs.LoopLaws.{more-nodes, part-length, part-nodes}
+use Rattle.model.proofs.ListLaws.{part-length}
+use Rattle.addresses.proofs.LoopLaws.{more-nodes, part-nodes}
 use borrow.Author.Needs.{needs}
 use Rattle.merging.proofs.look_entry.Statement.{statement}
 use Rattle.merging.proofs.look_entry.Tie as tie
