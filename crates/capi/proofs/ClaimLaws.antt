@@ -3,7 +3,7 @@ use mathlib.Core.Path.{_≡_, refl, sym, ap, _∙_}
 use mathlib.Core.Bool.{false, true≢false}
 use mathlib.Core.List.{List, [], _∷_}
 use native.Mathlib.Omega.{arith}
-use Prim.Native.Nat.{ℕ, zero, suc}
+use Prim.Native.Nat.{ℕ, suc}
 use lib.ListN.{length}
 use Rattle.model.specs.Step.{State, Call, Answer, refused, done, isRefused, step}
 use Rattle.model.specs.Frames.{clears, wordsAfter, numbers, RefusalLeaves, RefusalNumber, FreshLeaves}

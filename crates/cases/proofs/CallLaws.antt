@@ -1,6 +1,6 @@
 -- The numbers of an access as its call's control, address and data.
 use mathlib.Core.Path.{_≡_, refl}
-use mathlib.Core.List.{List, [], _∷_}
+use mathlib.Core.List.{[], _∷_}
 use Rattle.model.specs.Step.{write, read, assert, check, access}
 use Rattle.reading.specs.declared.Kind.the-variants as kind
 use Rattle.cases.specs.Case.{callOf}

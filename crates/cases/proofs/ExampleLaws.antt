@@ -20,7 +20,7 @@ use Rattle.reading.specs.Kinds.{kindOf, sizeOf, leadOf, portOf}
 use Rattle.reading.specs.Accesses.{accessAt}
 use Rattle.reading.specs.Sections.{withNodes, sections}
 use Rattle.reading.proofs.ExampleLaws.{example}
-use Rattle.cases.specs.Case.{callOf, done, one, rest, last, whole, accepts, Case, caseOf}
+use Rattle.cases.specs.Case.{callOf, done, one, rest, last, whole, accepts, caseOf}
 
 -- what a case answers and leaves of its text bytes, lent 16 nodes' words, an entry's and two bytes more than these lines, all 7: this record, and the lines
 abbrev pub Prints : List ℕ → Record → List ℕ → Type 0

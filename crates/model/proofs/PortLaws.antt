@@ -1,15 +1,14 @@
 -- The ports in their words: what a port holds, and what a word put into one leaves and adds.
-use mathlib.Core.Path.{_≡_, refl, sym, ap, _∙_}
-use mathlib.Core.Bool.{Bool, true, false}
+use mathlib.Core.Path.{_≡_, sym, ap, _∙_}
+use mathlib.Core.Bool.{Bool}
 use mathlib.Core.List.{List, [], _∷_, _++_}
 use Prim.Native.Nat.{ℕ, zero, suc, _+_, _*_, _-_, _≤_, _<_}
 use native.Mathlib.Omega.{arith}
 use native.Mathlib.Decide.{decLt}
 use lib.ListN.{length, getD, take, drop, length-append, length-drop, List·getD-append}
-use lib.Seq.{length-take-le, getD-take, getD-drop, drop-at}
+use lib.Seq.{length-take-le, getD-take, getD-drop}
 use Rattle.conditions.specs.Value.{value}
-use Rattle.model.specs.Pairs.{Pair}
-use Rattle.model.specs.Record.{Record, dataWords, portAt, heldWord, replaced}
+use Rattle.model.specs.Record.{Record, heldWord, replaced}
 use Rattle.model.specs.Claims.{pairAt}
 use Rattle.model.proofs.HalfLaws.{halfOf, half-same}
 use Rattle.model.proofs.ListLaws.{part-size, part-word}

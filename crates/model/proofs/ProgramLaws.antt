@@ -4,15 +4,14 @@ use mathlib.Core.Bool.{Bool, false, not, _&&_}
 use mathlib.Core.List.{List, []}
 use Prim.Native.Nat.{ℕ, _*_, _<_}
 use native.Mathlib.Omega.{arith}
-use lib.ListN.{length, getD}
+use lib.ListN.{getD}
 use Rattle.conditions.specs.Stores.{Standard, clearOf}
 use Rattle.conditions.specs.declared.Store.{Store}
-use Rattle.conditions.specs.Build.{Outcome}
 use Rattle.conditions.specs.Value.{value}
 use Rattle.conditions.specs.Meaning.{Builds}
 use Rattle.conditions.proofs.Promises.{clear-extends, extends-trans, is-user}
 use Rattle.model.specs.Record.{Record, withCount, heldWord}
-use Rattle.model.specs.Access.{Marks, Write, Read, AssertBuilt, Check}
+use Rattle.model.specs.Access.{Write, Read, Check}
 use Rattle.model.specs.Published.{entry, answer, assertHolds, checkHolds, keeps}
 use Rattle.model.specs.Step.{State, begin, assertFirst}
 use Rattle.model.specs.Claims.{pairAt, pairs}

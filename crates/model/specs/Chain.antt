@@ -10,7 +10,7 @@ use Rattle.conditions.specs.Assignment.{bitAt}
 use Rattle.model.specs.Record.{Record}
 use Rattle.model.specs.Step.{State, Access, NodeCall, Call, access, nodeCall, accepted, Answer, refused, done, Result, step, Fresh, fresh}
 use Rattle.model.specs.Pairs.{bit}
-use Rattle.model.specs.Array.{Event, Memory, Run, observed, lastMemory, Returns, Allowed}
+use Rattle.model.specs.Array.{Event, Run, observed, lastMemory, Returns, Allowed}
 use Rattle.model.specs.Claims.{event, BitMay, HeldMay}
 use Rattle.model.specs.Frames.{acceptedWrites}
 

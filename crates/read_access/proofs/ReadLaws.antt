@@ -19,8 +19,8 @@ use Rattle.model.proofs.FactLaws.{read-facts}
 use Rattle.model.proofs.ProgramLaws.{read-program}
 use Rattle.access.specs.Contract.{shape, Looks, Nodes}
 use Rattle.rows.specs.declared.Fields.{Fields}
-use Rattle.rows.specs.Contract.{recordOf, stateOf, unlessRefused, argumentRows, portedOf}
-use Rattle.rows.proofs.CallLaws.{valid-rows, row-passes, same-rows, no-users, no-pairs, facts-look}
+use Rattle.rows.specs.Contract.{recordOf, unlessRefused, argumentRows, portedOf}
+use Rattle.rows.proofs.CallLaws.{row-passes, same-rows, no-users, no-pairs, facts-look}
 use lib.Dec.{eqb}
 use Rattle.model.proofs.PortLaws.{held-at, held-length}
 use Rattle.nodes.specs.Search.{every}
