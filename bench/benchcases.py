@@ -119,7 +119,7 @@ def random_benches(maker, count):
 # Long lists.
 
 def full_list(n, w, address, data, enable=lambda number: ONE, entries=None):
-    """A case of as many writes as the list holds."""
+    """A case of so many writes, or of as many as the list holds."""
     case = CaseFile(n, w)
     if entries is None:
         entries = LIST_WORDS // (2 + 2 * n + 2 * w)
@@ -225,6 +225,24 @@ def read_benches(maker):
     case = full_list(4, 2, constant_address, variable_data, entries=100)
     many_constant_reads(case, 600)
     yield maker.bench(kind, "variables-600-reads", case, "600 reads of 100 entries at n=4, w=2, data of variables")
+
+
+# Idle writes.
+
+def idle_writes(n, w, count):
+    """A case of so many writes whose enable is 0."""
+    return full_list(n, w, constant_address, constant_data, lambda number: ZERO, count)
+
+
+def idle_benches(maker):
+    """Nothing is built or entered: such a case should take little more than to read it, and reads after idle
+    writes what they take of an empty list."""
+    kind = "idle writes"
+    yield maker.bench(kind, "2000-idle", idle_writes(1, 1, 2000), "2,000 idle writes at n=1, w=1")
+    yield maker.bench(kind, "640-idle-wide", idle_writes(8, 16, 640), "640 idle writes at n=8, w=16")
+    case = idle_writes(1, 1, 2000)
+    many_constant_reads(case, 2000)
+    yield maker.bench(kind, "2000-idle-and-2000", case, "2,000 idle writes and 2,000 reads at n=1, w=1")
 
 
 # Dense diagrams.
@@ -381,6 +399,7 @@ def must_be_fast(maker):
                 "a data bit of two counters modulo 24 over 56 variables, legal everywhere")
     yield Bench(kind, "file-5461", file_of_nodes(5459).bytes(), "a store of 5,461 nodes from a file")
     yield Bench(kind, "2730-writes", full_list(1, 1, constant_address, constant_data).bytes(), "2,730 writes")
+    yield Bench(kind, "2000-idle", idle_writes(1, 1, 2000).bytes(), "2,000 idle writes")
     yield Bench(kind, "1300-and-1300", writes_and_reads(1300, 1300).bytes(), "1,300 writes and 1,300 reads")
 
 
@@ -465,5 +484,6 @@ def all_benches(maker, quick):
     yield from random_benches(maker, 15 if quick else 40)
     yield from long_benches(maker)
     yield from read_benches(maker)
+    yield from idle_benches(maker)
     yield from dense_benches(maker)
     yield from parity_benches(maker)

@@ -48,11 +48,11 @@ static void fill(uint32_t count)
     record[MD_NODES] = count;
 }
 
-enum call { EVALUATE, VARIABLE, ITE, WRITE, READ };
+enum call { EVALUATE, VARIABLE, ITE, WRITE, IDLE_WRITE, READ };
 
 static uint32_t call(enum call which, uint32_t count)
 {
-    static const uint32_t one[2] = {1, 0};
+    static const uint32_t one[2] = {1, 0}, zero[2] = {0, 1};
     uint32_t out, answer[2];
     switch (which) {
     case EVALUATE: return md_evaluate(record, nodes, 3 * MOST, count - 1, 0, &out);
@@ -61,6 +61,7 @@ static uint32_t call(enum call which, uint32_t count)
     case WRITE:
         record[MD_ENTRIES] = 0;
         return md_write(record, nodes, 3 * MOST, list, LIST, one, 2, one, 2, one, 2, &out);
+    case IDLE_WRITE: return md_write(record, nodes, 3 * MOST, list, LIST, zero, 2, one, 2, one, 2, &out);
     default: return md_read(record, nodes, 3 * MOST, list, LIST, ports, 0, one, 2, one, 2, answer, 2);
     }
 }
@@ -97,6 +98,7 @@ int main(void)
     measure("variable", VARIABLE, 40);
     measure("Ite", ITE, 40);
     measure("write", WRITE, 40);
+    measure("idle write", IDLE_WRITE, 40);
     record[MD_ENTRIES] = 0;
     measure("read", READ, 40);
     return 0;

@@ -21,6 +21,7 @@
 #include <cstdio>
 #include <cstdlib>
 #include <cstring>
+#include <optional>
 #include <string>
 #include <unordered_map>
 #include <vector>
@@ -161,9 +162,12 @@ class Memory {
 
   size_t entries() const { return entries_.size(); }
 
-  size_t write(const Pair& control, const std::vector<Pair>& address, const std::vector<Pair>& data) {
+  // The entry's place, or none where the write is idle: its enable is 0 under every assignment.
+  std::optional<size_t> write(const Pair& control, const std::vector<Pair>& address, const std::vector<Pair>& data) {
+    if (control.h == bddfalse) return std::nullopt;
+    Entry entry = built(control, address, data);
     need_space();
-    enter(control, address, data);
+    entries_.push_back(std::move(entry));
     return entries_.size() - 1;
   }
 
@@ -194,7 +198,7 @@ class Memory {
     const bdd not_b = c_.not_(b);
     if (c_.or_(not_b, c_.and_(within, holds)) == bddtrue) return false;
     need_space();
-    enter(Pair{b, not_b}, address, data);
+    entries_.push_back(built(Pair{b, not_b}, address, data));
     return true;
   }
 
@@ -203,14 +207,15 @@ class Memory {
     if (entries_.size() >= static_cast<size_t>(entry_capacity_)) refuse(8);
   }
 
-  void enter(const Pair& control, const std::vector<Pair>& address, const std::vector<Pair>& data) {
+  // An entry, its h and s built.
+  Entry built(const Pair& control, const std::vector<Pair>& address, const std::vector<Pair>& data) {
     const bdd hard = c_.and_(control.h, c_.not_(control.l));
     bdd u = bddtrue;
     for (const Pair& a : address) u = c_.and_(u, c_.not_(c_.and_(a.h, a.l)));
     const bdd h = c_.and_(hard, u);
     const bdd both = c_.and_(control.h, control.l);
     const bdd s = c_.or_(both, c_.and_(hard, c_.not_(u)));
-    entries_.push_back(Entry{h, s, address, data});
+    return Entry{h, s, address, data};
   }
 
   bdd narrow(bdd in, const std::vector<Pair>& address) {
@@ -409,9 +414,11 @@ class Case {
       }
     }
     switch (kind) {
-      case kWrite:
-        text_.put("write " + std::to_string(memory.write(control, address, data)) + "\n");
+      case kWrite: {
+        const std::optional<size_t> place = memory.write(control, address, data);
+        text_.put("write " + (place ? std::to_string(*place) : "idle") + "\n");
         break;
+      }
       case kRead: {
         const std::vector<Pair>& word = memory.read(port, control, address);
         text_.put("read", 4);

@@ -230,7 +230,7 @@ AGAINST = """`bench/memcase_buddy.cpp` is the same accesses over BuDDy, the same
 
 CALLS = """`bench/calls.c` calls the library as a simulator does: evaluate, on a store of so many nodes. What it takes is row 2's test. `fast` is a store in standard form; in `plain` the last node repeats the one before it, so that the certificate fails, every two nodes are compared and the call is refused by 2. Microseconds of the processor, the least of 9 rounds."""
 
-SMALL_CALLS = """The same on a store of 40 nodes, with constants as arguments: what a call costs that has next to nothing to do. An access and Ite make a computed table of 32,768 places, which is most of it."""
+SMALL_CALLS = """The same on a store of 40 nodes, with constants as arguments: what a call costs that has next to nothing to do. An access that builds and Ite make a computed table of 32,768 places, which is most of it."""
 
 GROWTH = """The cost of one read: the time of a case with reads less that of the same case without, divided by the number of reads. The reads of constants go through the whole list. A dash stands where the difference is not above the noise."""
 

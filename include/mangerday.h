@@ -31,14 +31,14 @@
  *   13  text too long for its buffer
  *   14  read: port above 3
  *
- * A call tests its rows in the order listed for it, and answers the first that it meets; but an assert
- * meets 8 when its entry is needed, so that a 9 met before it wins; and md_case answers the number of
- * what it meets first in the file, whatever comes later. A refused call, but for md_case, leaves the
- * record, the nodes below the count, the list, the ports, the answer words and the out-word as they
- * were; after 9, and after 8 in an assert, the node words from the count to capacity are 0. An accepted
- * call changes no older node or entry, no word past the new counts, and of the ports nothing but the
- * held word of the port that it reads, or by md_fresh all. Any words may be lent: what is no memory is
- * refused, by row 1, 2 or 3.
+ * A call tests its rows in the order listed for it, and answers the first that it meets: a write meets
+ * 8 after its conditions are built, so that a 9 wins; but an assert meets 8 when its entry is needed, so
+ * that only a 9 met before it wins; and md_case answers the number of what it meets first in the file,
+ * whatever comes later. A refused call, but for md_case, leaves the record, the nodes below the count, the
+ * list, the ports, the answer words and the out-word as they were; after 8 or 9 the node words from the
+ * count to capacity are 0. An accepted call changes no older node or entry, no word past the new counts,
+ * and of the ports nothing but the held word of the port that it reads, or by md_fresh all. Any words may
+ * be lent: what is no memory is refused, by row 1, 2 or 3.
  *
  * Node capacity is the words divided by 3, rounded down, at most 16,384. List capacity is whole
  * entries of 2 + 2n + 2w words, at most 4,096.
@@ -69,6 +69,9 @@ enum { MD_N, MD_W, MD_NODES, MD_ENTRIES, MD_ASSERTED, MD_CHECKED, MD_RECORD };
 /* The words of the four ports. */
 #define MD_PORTS 128
 
+/* What md_write answers in the place of an idle write; no entry has it. */
+#define MD_IDLE 4294967295u
+
 /* A memory of n address bits (1 to 8) and w data bits (1 to 16): counts 2 and 0, both conditions 1,
    nodes 0 and 1 written into the node words, which are at least 6, and every word of the ports node 1,
    so that each holds X. Meets 1, 2. */
@@ -89,7 +92,9 @@ uint32_t md_ite(uint32_t record[MD_RECORD], uint32_t *nodes, size_t nodes_length
                 uint32_t *node);
 
 /* A write under an enable pair: appends an entry to the list and answers its place, counted from 0.
-   An enable or an address that is X makes an entry that may or may not hold. Meets 1, 2, 3, 4, 5, 6, 8, 9. */
+   An enable or an address that is X makes an entry that may or may not hold. A write whose enable is 0
+   under every assignment (its h is node 0) is idle: it answers MD_IDLE and changes nothing, and needs
+   neither a node nor space. Meets 1, 2, 3, 4, 5, 6, then, if it is not idle, 9, 8. */
 uint32_t md_write(uint32_t record[MD_RECORD], uint32_t *nodes, size_t nodes_length, uint32_t *list, size_t list_length,
                   const uint32_t *enable, size_t enable_length, const uint32_t *address, size_t address_length,
                   const uint32_t *data, size_t data_length, uint32_t *place);

@@ -58,6 +58,7 @@ def parity_accesses(case, odd, even):
     case.assert_(odd, [p], [p])
     case.write(ONE, [p], [ONE])
     case.read(ONE, [p])
+    case.write(ZERO, [p], [q])
     case.write(p, [ZERO], [ONE])
     case.write((odd, 1), [q], [p])
     case.read((odd, 1), [X])
@@ -85,6 +86,8 @@ def parity_cases(size, text_bytes):
                  lambda case, odd, even: (case.write(ONE, [ZERO], [ZERO]), case.assert_(odd, [ZERO], [ONE])))
     yield stored("row-06", "a pair (P, P), which is neither where P does not hold",
                  lambda case, odd, even: case.write(ONE, [(odd, odd)], [ONE]))
+    yield stored("row-06-idle", "the same in a write whose enable is 0",
+                 lambda case, odd, even: case.write(ZERO, [(odd, odd)], [ONE]))
     yield stored("row-07", "an address bit X where P holds, b is P",
                  lambda case, odd, even: case.assert_(odd, [(odd, 1)], [ONE]))
     yield stored("row-07-apart", "an address bit X where P holds, b is not P (accepted)",

@@ -5,7 +5,7 @@ import rooms  # noqa: F401
 from casefile import CaseFile, ONE, X, ZERO, bits, number_bits
 from randomcases import Random
 from reference import INPUT_BYTES, TEXT_BYTES, run_case
-from rowcases import all_kinds, held_words, one_assert, symbolic
+from rowcases import all_kinds, held_words, idle_writes, one_assert, one_write, symbolic
 from stored import through_library, through_memcase
 
 
@@ -59,6 +59,16 @@ def entry_limits():
                           "the entry after the last: 328 of 50 words")
     yield through_memcase("limit-entries-narrow-after", writes(1, 1, 2731).bytes(),
                           "the entry after the last: 2731 of 6 words")
+    case = writes(8, 16, 327)
+    case.write(ZERO, number_bits(70, 8), [X] * 16)
+    case.read(ONE, number_bits(70, 8))
+    yield through_memcase("limit-entries-idle", case.bytes(), "the last entry, then an idle write and a read")
+    case = CaseFile()
+    for _ in range(2731):
+        case.write(ZERO, [ZERO], [ONE])
+    case.write(ONE, [ZERO], [ONE])
+    yield through_memcase("limit-idle-writes", case.bytes(),
+                          "2731 idle writes, which is one more than the list has places, and an entry at place 0")
     data = writes(1, 1, 4097).bytes()
     yield through_library("limit-entries-4096", data, "entry 4097, with list words for more", list_words=30000)
     yield through_library("limit-entries-4095", data, "list words for 4095 entries", list_words=24575)
@@ -144,7 +154,7 @@ def numbers_of_nodes():
     randomcases.show_nodes(case, randomcases.made_nodes(case))
     yield through_memcase("numbers-not", case.bytes(), "the nodes of Not, low part first")
     for name, made in (("all-kinds", all_kinds()), ("symbolic", symbolic()), ("assert", one_assert()),
-                       ("held", held_words())):
+                       ("held", held_words()), ("write", one_write()), ("idle", idle_writes())):
         randomcases.show_nodes(made, randomcases.made_nodes(made))
         yield through_memcase("numbers-" + name, made.bytes(), "every node made on a user variable, by its number")
     for seed in range(12):

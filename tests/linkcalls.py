@@ -6,8 +6,8 @@
 makes a shared object of the archive and calls it through ctypes on random inputs from fixed seeds,
 long and short, valid and damaged; K times as many with --times.  The calls' answers are found by
 tools/calls.py, those of case files by tools/reference.py.  It prints how often each function met each
-row, 0 being accepted; the status is 1 where anything differs, or where a row was not met that a
-function can meet.
+row, 0 being accepted, and how many of the writes were idle; the status is 1 where anything differs, or
+where a row was not met that a function can meet, or no idle write.
 """
 
 import argparse
@@ -19,7 +19,7 @@ import tempfile
 from collections import Counter
 
 import rooms  # noqa: F401
-from calls import (ASSERT, CHECK, EVALUATE, FRESH, ITE, NAMES, READ, VARIABLE, WRITE, Call, entry_size, run)
+from calls import (ASSERT, CHECK, EVALUATE, FRESH, IDLE, ITE, NAMES, READ, VARIABLE, WRITE, Call, entry_size, run)
 from randomcalls import (Shape, State, Words, access, any_call, call, damage, memory, no_memory, shape, store,
                          user_variables)
 from randomcases import random_bytes
@@ -99,12 +99,23 @@ def after(left):
     return State(left.record, left.nodes, left.list, left.ports)
 
 
+def is_idle(one, left):
+    return one.kind == WRITE and left.out == IDLE
+
+
+def full_list(rng, state):
+    """The list with no space for one more entry."""
+    size = entry_size(state.record.n, state.record.w)
+    return state.list[:state.record.entries * size + rng.below(size)]
+
+
 class Test:
-    """The library, and how often each function met each row."""
+    """The library, how often each function met each row, and how many writes were idle."""
 
     def __init__(self, library):
         self.library = library
         self.met = Counter()
+        self.idle = 0
 
     def compare(self, rng, one, state):
         expected = run(one, *state)
@@ -116,17 +127,26 @@ class Test:
             if right != answer:
                 raise Differs("%s: %s is %s, not %s\n%s\n%s" % (NAMES[one.kind], what, answer, right, one, state))
         self.met[one.kind, expected.number] += 1
+        self.idle += is_idle(one, expected)
         return expected
 
     def capacities(self, rng, one, state, left):
-        """The call with room for from none to all of the nodes that it needs: 9 where that is not enough."""
+        """The call with room for from none to all of the nodes that it needs: 9 where that is not enough.
+        A write also with no space for its entry: then 8 where it is, unless the write is idle."""
         if left.number or one.kind == FRESH:
             return
         least, needed = state.record.nodes, left.record.nodes
         for nodes in range(needed, least - 1, -1 - (needed - least) // 12):
             small = state._replace(nodes=state.nodes[:3 * nodes + rng.below(3)])
-            if self.compare(rng, one, small).number != (9 if nodes < needed else 0):
-                raise Differs("%s in %d nodes" % (NAMES[one.kind], nodes))
+            self.expect(rng, one, small, 9 if nodes < needed else 0)
+            if one.kind == WRITE:
+                full = small._replace(list=full_list(rng, state))
+                self.expect(rng, one, full, 9 if nodes < needed else 0 if is_idle(one, left) else 8)
+
+    def expect(self, rng, one, state, number):
+        if self.compare(rng, one, state).number != number:
+            raise Differs("%s in %d node words, %d list words: not %d" % (
+                NAMES[one.kind], len(state.nodes), len(state.list), number))
 
     def step(self, rng, state, one, damaged):
         """A call, most often as it should be, else damaged; the memory to go on from."""
@@ -242,17 +262,21 @@ def all_tests(test, times):
         test.case(500000 + seed)
 
 
-def report(met):
+def report(test):
     """Print the counts; the status to end with."""
     status = 0
     for kind, rows in [*REACHED.items(), ("case", REACHED_BY_CASES)]:
-        found = {row: many for (one, row), many in met.items() if one == kind}
+        found = {row: many for (one, row), many in test.met.items() if one == kind}
         name = NAMES.get(kind, kind)
         print("%-9s %s" % (name, " ".join("%d:%d" % item for item in sorted(found.items()))))
         if set(found) != rows:
             print("linkcalls: %s met the rows %s, not %s: other seeds are needed" % (name, sorted(found), sorted(rows)))
             status = 1
-    print("%d calls compared, every buffer" % sum(met.values()))
+    print("%d of the writes idle" % test.idle)
+    if not test.idle:
+        print("linkcalls: no write was idle: other seeds are needed")
+        status = 1
+    print("%d calls compared, every buffer" % sum(test.met.values()))
     return status
 
 
@@ -270,7 +294,7 @@ def main():
         except Differs as difference:
             print("linkcalls: " + str(difference))
             return 1
-    return report(test.met)
+    return report(test)
 
 
 if __name__ == "__main__":

@@ -1,6 +1,6 @@
 #!/usr/bin/env python3
-"""The calls of `memory_test`: every row by each call that can meet it, the order of the rows, the
-panel's rulings, what ports hold, lists and stores at their limits.
+"""The calls of `memory_test`: every row by each call that can meet it, the order of the rows, idle
+writes, the panel's rulings, what ports hold, lists and stores at their limits.
 
     python3 tests/memorycalls.py            write crates/memory_test/stdin and stdout
     python3 tests/memorycalls.py --check    compare them; status 1 where one is not as made
@@ -13,8 +13,8 @@ import sys
 
 from rooms import ROOT
 from callscript import ACCESSES, Script, main
-from calls import (ASSERT, CHECK, EVALUATE, FRESH, ITE, NAMES, PORT_WORDS, PORTS, READ, VARIABLE, WRITE, Call, Record,
-                   held_places, run)
+from calls import (ASSERT, CHECK, EVALUATE, FRESH, IDLE, ITE, NAMES, PORT_WORDS, PORTS, READ, VARIABLE, WRITE, Call,
+                   Record, held_places, run)
 
 TERMINALS = [64, 0, 0, 64, 1, 1]
 ONE, ZERO, X = [1, 0], [0, 1], [1, 1]
@@ -199,14 +199,16 @@ def row_7():
 
 
 def row_8():
-    """A write leaves the words; an assert has built its conditions, and clears them.
+    """A write and an assert have built conditions, and clear the words from the count on.
 
-    Nothing was written, so an assert of X is kept and needs no entry; reads and checks need none.
+    Nothing was written, so an assert of X is kept and needs no entry; so is one whose b is 0, and a write
+    whose enable is 0 is idle.  Reads and checks need none.
     """
-    for name, words, data in (("no list words, data 1", 0, ONE), ("no list words, data X", 0, X),
-                              ("5 list words, data 1", 5, ONE)):
+    for name, words, control, data in (
+            ("no list words, data 1", 0, ONE, ONE), ("no list words, data X", 0, ONE, X),
+            ("5 list words, data 1", 5, ONE, ONE), ("no list words, enable or b 0", 0, ZERO, ONE)):
         for kind in (WRITE, ASSERT, READ, CHECK):
-            wide(name, kind, words, ONE, ZERO, data)
+            wide(name, kind, words, control, ZERO, data)
 
 
 def row_9():
@@ -246,8 +248,8 @@ def order():
     """Every row from 1 up, then one row less each time: n = 9; node 0 on variable 63; two entries in a
     list of one; data of three words; a control that is the count; an address bit (0, 0); one that is X;
     no space for an entry; no room for the nodes.  Each line has the lowest row that is left for its
-    call: row 7 is an assert's; from there on a write has 8 before 9, and an assert the 9 that comes
-    before its entry is needed."""
+    call: row 7 is an assert's; from there on a write and an assert have the 9 that comes before the
+    entry needs its space."""
     ordered("1 to 9", record_of(9, 1, 4, 2), 63, 8, [4, 3], [0, 0, 1, 1], [0, 1, 0])
     ordered("2 to 9", record_of(2, 1, 4, 2), 63, 8, [4, 3], [0, 0, 1, 1], [0, 1, 0])
     ordered("3 to 9", record_of(2, 1, 4, 2), 64, 8, [4, 3], [0, 0, 1, 1], [0, 1, 0])
@@ -258,11 +260,25 @@ def order():
     ordered("7 to 9", memory, 64, 8, [1, 3], [0, 1, 1, 1], ZERO)
     ordered("8 and 9", memory, 64, 8, [1, 3], [0, 1, 0, 1], ZERO)
     ordered("9", memory, 64, 16, [1, 3], [0, 1, 0, 1], ZERO)
-    # With room for 10 more nodes: 8 by a write and by an assert of another word, which clears; an assert
-    # of the word that is there is kept, and meets no 8.
+    # With room for 10 more nodes: 8 by a write and by an assert of another word, and both clear; an
+    # assert of the word that is there is kept, and meets no 8.
     ordered("8", memory, 64, 8, [1, 3], [0, 1, 0, 1], ZERO, 30)
     ordered("8, or kept", memory, 64, 8, [1, 3], [0, 1, 0, 1], ONE, 30)
     ordered("none", memory, 64, 16, [1, 3], [0, 1, 0, 1], ZERO, 30)
+
+
+def order_of_idle():
+    """The same with an enable, or a b, of 0, on a list with no space: a write meets rows 1 to 6, else it is
+    idle.  An assert is kept, where there is room for the nodes of its look."""
+    memory = record_of(2, 1, 4, 1)
+    for rows, record, terminal, address, data, room in (
+            ("1 to 6", record_of(9, 1, 4, 2), 63, [0, 0, 4, 1], [0, 1, 0], 5),
+            ("2 to 6", record_of(2, 1, 4, 2), 63, [0, 0, 4, 1], [0, 1, 0], 5),
+            ("3 to 6", record_of(2, 1, 4, 2), 64, [0, 0, 4, 1], [0, 1, 0], 5),
+            ("4 to 6", memory, 64, [0, 0, 4, 1], [0, 1, 0], 5), ("5 and 6", memory, 64, [0, 0, 4, 1], ZERO, 5),
+            ("6", memory, 64, [0, 0, 1, 1], ZERO, 5), ("9 or idle", memory, 64, [1, 3, 1, 1], ZERO, 5),
+            ("kept or idle", memory, 64, [1, 3, 1, 1], ZERO, 60)):
+        ordered(rows + ", enable or b 0", record, terminal, 8, ZERO, address, data, room)
 
 
 def order_of_read():
@@ -281,6 +297,18 @@ def order_of_read():
                                      (1, 64, right, "14, 9")):
         tell(what, Call(READ, ONE, ZERO, ONE, port=4), record_of(n, 1, 2, 0), [terminal] + TERMINALS[1:], [], ports=ports)
     tell("3, 9", Call(READ, ONE, ZERO, ONE), record_of(1, 1, 2, 0), TERMINALS, [], ports=wrong)
+
+
+def order_in_write():
+    """The enable is X where variable 8 holds, the address where 9 does: its conditions take 5 nodes more,
+    one each for hard and u, one for h, two for s.  With fewer it is 9, whether there is space or not; with 9
+    nodes and up no space is 8, which clears as 9 does, and with space it is entered."""
+    nodes = TERMINALS + [8, 0, 1, 9, 0, 1] + [7] * 20
+    call = Call(WRITE, [1, 2], [1, 3], ONE)
+    for room in range(4, 11):
+        for words, space in ((0, "no words"), (5, "no space"), (6, "space")):
+            left = tell("%d nodes, %s" % (room, space), call, record_of(1, 1, 4, 0), nodes[:3 * room + 1], [7] * words)
+            assert left.number == (9 if room < 9 else 8 if words < 6 else 0)
 
 
 def order_in_assert():
@@ -307,6 +335,40 @@ def order_unlisted():
     unlisted("2, 5", 1, 63, 17, Call(EVALUATE, other=(4, 0)))
     unlisted("1, 2", 1, 64, 5, Call(FRESH, other=(9, 1)))
     unlisted("2", 1, 64, 5, Call(FRESH, other=(1, 1)))
+
+
+# Writes that are idle.
+
+def idle():
+    """A write whose enable is 0 is idle on a full list and with no room for a node, whatever its address
+    and data are, and leaves everything; rows 1 to 6 come before."""
+    record = record_of(1, 1, 4, 1)
+    for name, address, data in (("at 0", ZERO, ONE), ("at X", X, ZERO), ("data X", ONE, X),
+                                ("an address that is X where variable 8 holds", [1, 2], ONE),
+                                ("data that is X where variable 8 holds", ZERO, [2, 1])):
+        for room, nodes, entries in (("full list", LENT, LENT_LIST), ("no room for a node", LENT[:12], LENT_LIST[:6]),
+                                     ("space and room", LENT + [7] * 30, LENT_LIST + [7] * 30)):
+            left = tell("idle, %s, %s" % (name, room), Call(WRITE, ZERO, address, data), record, nodes, entries)
+            assert left[:5] == (0, IDLE, record, nodes, entries)
+    tell("idle, no entries, no list words", Call(WRITE, ZERO, ZERO, ONE), record_of(1, 1, 2, 0), TERMINALS)
+    for name, control, address, data in (
+            ("address of 3 words", ZERO, [0, 1, 0], ONE), ("data of 1 word", ZERO, ZERO, [1]),
+            ("enable of 1 word", [0], ZERO, ONE), ("enable of 3 words", [0, 1, 0], ZERO, ONE),
+            ("enable l the count", [0, 4], ZERO, ONE), ("enable l on index 0", [0, 3], ZERO, ONE),
+            ("address h the count", ZERO, [4, 1], ONE), ("address l on index 0", ZERO, [0, 3], ONE),
+            ("data h on index 0", ZERO, ZERO, [3, 1]), ("data l the count", ZERO, ZERO, [0, 4]),
+            ("enable (0, 2)", [0, 2], ZERO, ONE), ("address (0, 0)", ZERO, [0, 0], ONE),
+            ("address (2, 0)", ZERO, [2, 0], ONE), ("data (0, 0)", ZERO, ZERO, [0, 0]),
+            ("data (2, 2)", ZERO, ZERO, [2, 2])):
+        lent("enable h 0, " + name, [WRITE], control, address, data)
+
+
+def not_idle():
+    """An enable that may be 1 under some assignment is not idle: X, variable 8, its negation, and those that
+    are X where one of them holds.  With no space 8, and with space entered."""
+    for words in (5, 6):
+        for control in (X, [2, 3], [3, 2], [2, 1], [3, 1], [1, 2], [1, 3], ONE):
+            wide("enable %d:%d, %d list words" % (*control, words), WRITE, words, control, ZERO, ONE)
 
 
 # Calls one after the other.
@@ -341,15 +403,15 @@ class Memory:
     def check(self, address, data):
         return self.go("check", Call(CHECK, [1], address, data))
 
-    def assert_(self, address, data):
-        return self.go("assert", Call(ASSERT, [1], address, data))
+    def assert_(self, address, data, b=1):
+        return self.go("assert", Call(ASSERT, [b], address, data))
 
 
 def ruling(number, writes, address, enable, expected, w=1):
     """Writes (address, data, enable), and the read that follows them; the bit that the panel ruled."""
     memory = Memory("R%d" % number, 1, w, [0] * 96, [0] * 24)
     for at, data, enabled in writes:
-        memory.write(at, data, enabled)
+        assert (memory.write(at, data, enabled).out == IDLE) == (enabled == ZERO), "R%d" % number
     assert memory.read(address, enable).data == expected, "R%d" % number
 
 
@@ -373,6 +435,27 @@ def rulings():
     memory.write(ONE, ZERO + ONE)
     assert memory.check(X, X + X).record.check_condition == 1
     assert memory.check(X, ONE + ZERO).record.check_condition == 0
+
+
+def idle_between():
+    """Idle writes take no place between entries, nor after the last that the list holds, and build nothing:
+    an enable of 0 and an X address, with symbolic data.  After 8 the words past the count are 0, and the
+    memory goes on."""
+    memory = Memory("idle between", 1, 1, [7] * 60, [7] * 12)
+    a = memory.variable(8)
+    idle_write = [a[0], 1], a, ZERO
+    assert memory.write(*idle_write).out == IDLE
+    assert memory.write(ZERO, ONE).out == 0
+    assert memory.write(*idle_write).out == IDLE
+    assert memory.read(ZERO).data == ONE
+    assert memory.write(ONE, a, a).out == 1, "the place that the idle ones did not take"
+    before = memory.record
+    assert memory.go("three times", Call(WRITE, ZERO, X, ONE), 3).out == IDLE
+    assert memory.assert_(ZERO, ZERO, 0).out == 0, "kept on a full list"
+    assert memory.record.entries == before.entries == 2
+    assert memory.write(ZERO, ZERO, [a[0], 1]).number == 8
+    assert memory.write(*idle_write).out == IDLE
+    assert memory.read(ONE).number == 0 and memory.check(ZERO, ONE).number == 0
 
 
 def holding():
@@ -460,6 +543,7 @@ def largest_sizes():
     memory.write([1] * 16, word)
     memory.read(address)
     assert memory.write(address, word).number == 8
+    assert memory.write(address, word, ZERO).out == IDLE
     # The held words are all 32 words of a port.
     memory.read(address, ONE, 3)
     assert memory.read([1] * 16, ZERO, 0).data == memory.held(3)
@@ -493,9 +577,14 @@ def most_entries():
     last = tell("4095 entries, assert 1", Call(ASSERT, [1], ZERO, ONE), record_of(1, 1, 2, 4095), nodes, [1] * 24582)
     for data in (ZERO, ONE):
         tell("4096 entries, assert", Call(ASSERT, [1], ZERO, data), record_of(1, 1, 2, 4096), nodes, last.list)
+    # An idle write is accepted with as many entries as there may be, and refused by 3 with more.
+    for entries in (4095, 4096, 4097):
+        tell("%d entries, enable 0" % entries, Call(WRITE, ZERO, ZERO, ONE), record_of(1, 1, 2, entries), TERMINALS,
+             [1] * 24582)
     memory = Memory("all entries", 1, 1, [7] * 6, [2 ** 32 - 1] * 24582)
     assert memory.go("4096 writes", write, 4096).out == 4095
     assert memory.go("4097th write", write).number == 8
+    assert memory.write(ONE, X, ZERO).out == IDLE
 
 
 def filled(count, words):
@@ -533,10 +622,15 @@ def largest_stores():
         name = "%d nodes" % count
         node_calls(name, record_of(1, 1, count, 0), nodes)
         one_at_0(name, record_of(1, 1, count, 0), nodes, [7] * 6)
+    # A write at an address that is X where node 13,006 holds needs its Not: 9, whether there is space or not.
+    for words, enable, number in ((6, ONE, 9), (5, ONE, 9), (5, ZERO, 0)):
+        left = tell("16384 nodes, %d list words, enable %d" % (words, enable[0]), Call(WRITE, enable, [1, 13006], ONE),
+                    record_of(1, 1, 16384, 0), nodes, [7] * words)
+        assert left.number == number
 
 
-SMALL = [row_1, row_2, row_3, row_4, row_5, row_6, row_7, row_8, row_9, row_14, order, order_of_read, order_in_assert,
-         order_unlisted, rulings, holding, late_nine]
+SMALL = [row_1, row_2, row_3, row_4, row_5, row_6, row_7, row_8, row_9, row_14, order, order_of_idle, order_of_read,
+         order_in_write, order_in_assert, order_unlisted, idle, not_idle, rulings, idle_between, holding, late_nine]
 GROUPS = SMALL + [largest_sizes, lists, most_entries, largest_stores]
 
 

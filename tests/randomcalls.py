@@ -155,7 +155,8 @@ class Pool:
         return halves(self.pair(apart) for _ in range(min(many, 40)))
 
     def enable(self):
-        return list(ONE) if self.rng.chance(50) else list(self.pair())
+        way = self.rng.below(100)
+        return list(ONE if way < 45 else ZERO if way < 60 else self.pair())
 
 
 def call(rng, state, variables):

@@ -1,10 +1,11 @@
-"""Stored cases for the paper's examples and rulings, each row of its table, and their order; what ports hold."""
+"""Stored cases for the paper's examples and rulings, each row of its table, and their order; what ports hold;
+writes that are idle."""
 
 import os
 
 from rooms import ROOT
 import casetext
-from calls import PORTS
+from calls import PORTS, entry_size
 from casefile import Access, CaseFile, ONE, X, ZERO, access_bytes, bits, number_bits
 from reference import printed, run_case
 from stored import through_library, through_memcase
@@ -323,13 +324,14 @@ def row_8():
         yield through_library("row-09-assert-nodes-%d" % count, case.bytes(),
                               "the same assert with space: 9 also in its write; capacity %d" % count,
                               node_words=3 * count)
-    case = CaseFile()
-    case.write((case.variable(8), 1), [(1, case.variable(9))], [ONE])
-    full = 3 * (len(case.nodes) + 2)
-    yield through_library("row-08-write-before-9", case.bytes(),
-                          "a write with no space answers 8 though its building would need a node",
-                          node_words=full, list_words=0)
-    yield through_library("row-09-write", case.bytes(), "the same write with space: 9", node_words=full)
+    case = one_write()
+    need = run_case(case.bytes()).record.nodes
+    for count in range(len(case.nodes) + 2, need + 1):
+        yield through_library("row-08-write-nodes-%d" % count, case.bytes(),
+                              "a write with no space for its entry: 9 where a node is missing, else 8; "
+                              "capacity %d" % count, node_words=3 * count, list_words=5)
+        yield through_library("row-09-write-nodes-%d" % count, case.bytes(),
+                              "the same write with space; capacity %d" % count, node_words=3 * count, list_words=6)
 
 
 def kept_assert():
@@ -337,6 +339,13 @@ def kept_assert():
     case.write(ONE, [ZERO], [ONE])
     case.assert_(1, [ZERO], [ONE])
     case.assert_(1, [ONE], [ONE])
+    return case
+
+
+def one_write():
+    """A write that makes five nodes: one each for hard and u, one for h, two for s."""
+    case = CaseFile()
+    case.write((1, case.variable(8)), [(1, case.variable(9))], [ONE])
     return case
 
 
@@ -474,6 +483,7 @@ def orders():
     yield through_library("order-13-end", case(good).bytes(), "13 at `end`", text_bytes=13)
     yield through_memcase("order-11-before-content", case(good, (0, [99], [], [])).bytes(), "11 before 5")
     yield from port_orders(case)
+    yield from idle_orders(case)
 
 
 def port_orders(case):
@@ -488,6 +498,85 @@ def port_orders(case):
     yield through_memcase("order-14-06", case((2, [0, 0], [ZERO], [], 4)).bytes(), "14 before 6")
     yield through_library("order-14-09", data, "14 before 9", node_words=12)
     yield through_library("order-14-13", data, "14 before 13", text_bytes=0)
+
+
+def idle_orders(case):
+    """An idle write meets the rows of its bytes and nodes, and 13; neither 8 nor 9."""
+    def idle(address=ZERO, data=ONE, enable=ZERO):
+        return case((1, list(enable), [address], [data]), nodes=((8, 0, 1), (9, 0, 1))).bytes()
+
+    yield through_memcase("order-10-idle", idle()[:-1], "a missing byte of a write whose enable is 0")
+    yield through_memcase("order-12-idle", idle() + b"\0", "an idle write, then a byte after the last access")
+    for name, pair in (("count", (0, 4)), ("far", (0, 65535))):
+        yield through_memcase("order-05-idle-address-" + name, idle(address=pair), "5 at the address before idle")
+        yield through_memcase("order-05-idle-data-" + name, idle(data=pair), "5 at the data before idle")
+        yield through_memcase("order-05-idle-enable-" + name, idle(enable=pair), "5 at the enable's l, its h is 0")
+    for name, pair in (("false", (0, 0)), ("some", (0, 2))):
+        yield through_memcase("order-06-idle-address-" + name, idle(address=pair), "6 at the address before idle")
+        yield through_memcase("order-06-idle-data-" + name, idle(data=pair), "6 at the data before idle")
+        yield through_memcase("order-06-idle-enable-" + name, idle(enable=pair), "6 at the enable, its h is 0")
+    yield through_library("order-idle-08", idle(), "an idle write and no list words (accepted)", list_words=0)
+    yield through_library("order-idle-09", idle(address=(1, 2)),
+                          "an idle write that would need a node, and no room for it (accepted)", node_words=12)
+    yield through_library("order-idle-09-08", idle(address=(1, 2)), "the same with no list words (accepted)",
+                          node_words=12, list_words=0)
+    for size in (10, 11, 16, 17):
+        yield through_library("order-13-idle-%d" % size, idle(), "`write idle` and `end 0`, 17 bytes, into %d" % size,
+                              text_bytes=size)
+    kept = case((3, [0], [ZERO], [ONE])).bytes()
+    yield through_library("order-kept-08", kept, "an assert whose b is 0 is kept, with no list words (accepted)",
+                          list_words=0)
+    yield through_library("order-09-kept", kept, "an assert whose b is 0 looks, and meets 9", node_words=12)
+    yield through_library("order-09-08", one_write().bytes(), "9 before 8 in a write", node_words=24, list_words=0)
+
+
+# Writes that are idle.
+
+def idle_writes():
+    """Entries among writes whose enables are 0, with symbolic and X addresses and data; of one of the addresses
+    Not is no node of the file."""
+    case = CaseFile(1, 2)
+    a, b = case.bit(8), case.bit(9)
+    either = case.node(8, b[0], 1)
+    case.write(ZERO, [ONE], [ONE, ONE])
+    case.write(ONE, [ZERO], [a, ONE])
+    case.write(ZERO, [ZERO], [ZERO, ZERO])
+    case.write(ZERO, [X], [b, X])
+    case.write(a, [ONE], [b, ZERO])
+    case.write(ZERO, [(either, 1)], [(1, b[0]), a])
+    case.read(ONE, [ZERO])
+    case.read(ONE, [ONE])
+    case.assert_(0, [ZERO], [ZERO, ZERO])
+    case.check(1, [ZERO], [a, ONE])
+    case.write((b[0], 1), [ZERO], [ZERO, X])
+    case.write(ZERO, [b], [a, b])
+    case.read(ONE, [ZERO])
+    return case
+
+
+def idle():
+    case = idle_writes()
+    yield through_memcase("idle-between", case.bytes(), "idle writes take no place, build nothing and change no word")
+    size = entry_size(case.n, case.w)
+    for words in range(0, 3 * size + 1, size):
+        yield through_library("idle-words-%d" % words, case.bytes(),
+                              "the same with list words for %d of its 3 entries" % (words // size), list_words=words)
+    case = CaseFile()
+    for _ in range(3):
+        case.write(ZERO, [X], [ONE])
+    yield through_memcase("idle-only", case.bytes(), "three idle writes: no entries")
+    case.read(ONE, [ZERO])
+    case.write(ONE, [ZERO], [ONE])
+    case.read(ONE, [ZERO])
+    yield through_memcase("idle-first", case.bytes(), "a write after idle ones is the first entry")
+    case = CaseFile()
+    a = case.bit(8)
+    for enable in (X, a, a[::-1], (a[0], 1), (a[1], 1), (1, a[0]), (1, a[1])):
+        case.write(enable, [ZERO], [ONE])
+        case.write(ZERO, [ZERO], [ONE])
+    case.read(ONE, [ZERO])
+    yield through_memcase("idle-or-not", case.bytes(),
+                          "enables that may be 1 under some assignment are entered, and between them idle ones")
 
 
 # What ports hold.

@@ -7,6 +7,7 @@ They hold the reference to the paper's file, rulings and small inputs, to all pl
 runs of small cases, and to wrong programs, each of which the cases must find out.
 """
 
+import itertools
 import os
 import unittest
 from contextlib import contextmanager
@@ -19,12 +20,14 @@ import casetext
 import derivedcases
 import memorycalls
 import plain
+import randomcalls
 import randomcases
 import reference
 import rowcases
 import storedcases
 import tables
 import wrongreads
+import wrongwrites
 from casefile import CaseFile, NotACaseFile, ONE, X, ZERO, parse
 from randomcases import Random
 from reference import memcase, printed, run_case
@@ -77,6 +80,9 @@ class Paper(unittest.TestCase):
         self.assertEqual(refusal(CaseFile().bytes() + b"\0"), 12)
         self.assertEqual(refusal(CaseFile().bytes(), text_bytes=5), 13)
         self.assertEqual(run_case(CaseFile().bytes(), text_bytes=6).text, "end 0\n")
+        idle = CaseFile()
+        idle.write(ZERO, [ZERO], [ONE])
+        self.assertEqual(run_case(idle.bytes(), node_words=6, list_words=0).text, "write idle\nend 0\n")
         read.read(ONE, [ZERO], 4)
         self.assertEqual(refusal(read.bytes()), 14)
 
@@ -154,6 +160,29 @@ def new_parts(conditions, table, seen, made):
     made.append(table)
 
 
+class IdleWrites(unittest.TestCase):
+    def test_only_their_lines_are_lost_without_them(self):
+        """A case without its idle writes prints the same but for `write idle`."""
+        found = 0
+        for seed in range(300):
+            case = randomcases.without_refusals(randomcases.small(Random(seed)))
+            outcome = run_case(case.bytes())
+            entered = [event.answer != "idle" for event in outcome.events]
+            found += entered.count(False)
+            case.accesses = list(itertools.compress(case.accesses, entered))
+            self.assertEqual(memcase(case.bytes()), printed(outcome).replace("write idle\n", ""), seed)
+        self.assertGreater(found, 200)
+
+    def test_random_calls_have_them(self):
+        found = 0
+        for seed in range(1000):
+            rng = randomcalls.Words(seed)
+            size = randomcalls.shape(rng)
+            state = randomcalls.memory(rng, size, randomcalls.store(rng, size.variables, 8), 1, 30, 30)
+            found += calls.run(randomcalls.access(rng, state), *state).out == calls.IDLE
+        self.assertGreater(found, 30)
+
+
 def tiny_case(seed):
     return randomcases.without_refusals(randomcases.tiny(Random(seed)))
 
@@ -164,20 +193,22 @@ def has_differences(case):
 
 class PlainRuns(unittest.TestCase):
     def test_reads_ports_and_checks_are_exact(self):
-        reads = checks = held = 0
+        reads = checks = held = idle = 0
         for seed in range(400):
             case = tiny_case(seed)
             outcome = run_case(case.bytes())
             self.assertEqual(plain.differences(outcome, case.n, case.w), [], seed)
             reads += sum(event.kind == calls.READ for event in outcome.events)
             checks += sum(event.kind == calls.CHECK for event in outcome.events)
+            idle += sum(event.answer == "idle" for event in outcome.events)
             held += sum(word != [(outcome.conditions.true,) * 2] * case.w for word in outcome.memory.ports)
         self.assertGreater(reads, 200)
         self.assertGreater(checks, 100)
         self.assertGreater(held, 60)
+        self.assertGreater(idle, 60)
 
-    def test_stored_ports_are_exact(self):
-        for case in [*rowcases.ports(), *rowcases.rulings()]:
+    def test_stored_cases_are_exact(self):
+        for case in [*rowcases.idle(), *rowcases.ports(), *rowcases.rulings()]:
             outcome = run_case(case.data)
             self.assertEqual(plain.differences(outcome, *case.data[:2]), [], case.name)
 
@@ -185,6 +216,16 @@ class PlainRuns(unittest.TestCase):
         for wrong in wrongreads.WRONG_WORDS:
             with planted(calls.Memory, "read", wrong):
                 self.assertTrue(any(has_differences(tiny_case(seed)) for seed in range(300)), wrong.__name__)
+
+    def test_wrong_writes_are_found(self):
+        for wrong in wrongwrites.WRONG_WORDS:
+            with planted(calls.Memory, "write", wrong):
+                self.assertTrue(any(has_differences(tiny_case(seed)) for seed in range(300)), wrong.__name__)
+
+    def test_idle_writes_would_change_no_word(self):
+        """An entry of an idle write changes no read, held word or check."""
+        with planted(calls.Memory, "write", wrongwrites.idle_entered):
+            self.assertFalse(any(has_differences(tiny_case(seed)) for seed in range(100)))
 
     def test_one_run_after_another(self):
         """Runs kept together by their contents say the same as all runs one by one."""
@@ -230,8 +271,8 @@ def x_write_ignored(right, self, control, address, data):
     return right(self, control, address, data)
 
 
-def never_enters(_right, self, _control, _address, _data):
-    self.entries.append(calls.Entry(0, 0, _address, _data))
+def never_enters(_right, _self, _control, address, data):
+    return calls.Entry(0, 0, address, data)
 
 
 def high_part_first(right, self, f, g, h):
@@ -245,8 +286,22 @@ def high_part_first(right, self, f, g, h):
 def always_entered(right, self, b, address, data):
     answer = right(self, b, address, data)
     if answer == "kept":
-        self.enter((b, self.conditions.not_(b)), address, data)
+        self.entries.append(self.build_entry((b, self.conditions.not_(b)), address, data))
     return "entered"
+
+
+def assert_idle(right, self, b, address, data):
+    return right(self, b, address, data) if b else "idle"
+
+
+def assert_builds_before_8(right, self, b, address, data):
+    """8 after the conditions of the entry, as in a write."""
+    capacity, self.entry_capacity = self.entry_capacity, len(self.entries) + 1
+    answer = right(self, b, address, data)
+    self.entry_capacity = capacity
+    if len(self.entries) > capacity:
+        raise tables.Refused(8)
+    return answer
 
 
 def no_last_node(right, self, table):
@@ -267,6 +322,22 @@ def no_row_6(_right, conditions, access):
                 [(table(h), table(l)) for h, l in access.data])
     except IndexError:
         raise tables.Refused(5) from None
+
+
+def idle_before_row_6(right, conditions, kind, control, address, data):
+    if kind != calls.WRITE or control[0]:
+        right(conditions, kind, control, address, data)
+
+
+def idle_unread(right, conditions, access):
+    """Address and data of an idle write are not looked at."""
+    if access.kind == calls.WRITE and access.control == [0, 1]:
+        return (0, conditions.true), [], []
+    return right(conditions, access)
+
+
+def idle_with_place(right, memory, kind, answer):
+    return ["write idle %d" % len(memory.entries)] if answer == "idle" else right(memory, kind, answer)
 
 
 def port_after_nodes(right, conditions, access):
@@ -300,18 +371,25 @@ WRONG = [
     (calls.Memory, "look", soft_replaces),
     (calls.Memory, "look", x_address_reads_as_ones),
     (calls.Memory, "__init__", ports_start_0),
-    (calls.Memory, "write", x_write_ignored),
-    (calls.Memory, "enter", never_enters),
+    (calls.Memory, "build_entry", x_write_ignored),
+    (calls.Memory, "build_entry", never_enters),
     (calls.Memory, "assert_", always_entered),
+    (calls.Memory, "assert_", assert_idle),
+    (calls.Memory, "assert_", assert_builds_before_8),
     (calls.Memory, "need_space", one_entry_more),
     (tables.Conditions, "add", no_last_node),
     (tables.Conditions, "ite", high_part_first),
     (reference, "as_tables", no_row_6),
     (reference, "as_tables", port_after_nodes),
+    (reference, "as_tables", idle_unread),
+    (reference, "test_pairs", idle_before_row_6),
     (reference, "read_access", kind_after_bytes),
     (reference, "read_access", port_before_bytes),
     (reference, "line_parts", lowest_bit_first),
-] + [(calls.Memory, "read", wrong) for wrong in wrongreads.WRONG_READS]
+    (reference, "line_parts", idle_with_place),
+]
+WRONG += [(calls.Memory, "read", wrong) for wrong in wrongreads.WRONG_READS]
+WRONG += [(calls.Memory, "write", wrong) for wrong in wrongwrites.WRONG_WRITES]
 
 
 def index_nodes_taken(_right, nodes, words):
@@ -321,6 +399,30 @@ def index_nodes_taken(_right, nodes, words):
 def nothing_cleared(right, call, record, words, entries, ports):
     left = right(call, record, words, entries, ports)
     return left._replace(nodes=list(words)) if left.number else left
+
+
+def write_clears_nothing_by_8(right, call, record, words, entries, ports):
+    left = right(call, record, words, entries, ports)
+    return left._replace(nodes=list(words)) if left.number == 8 and call.kind == calls.WRITE else left
+
+
+def idle_clears(right, call, record, words, entries, ports):
+    """An idle write leaves the words past the count as a refusal by 8 does."""
+    left = right(call, record, words, entries, ports)
+    if left.out != calls.IDLE:
+        return left
+    return left._replace(nodes=left.nodes[:3 * record.nodes] + [0] * (len(words) - 3 * record.nodes))
+
+
+def idle_before_rows(right, call, record, words, entries, ports):
+    """A write whose enable's h is node 0 is idle, whatever the rest is."""
+    if call.kind == calls.WRITE and call.control[:1] == [0]:
+        return calls.Left(0, calls.IDLE, record, words, entries, call.data, ports)
+    return right(call, record, words, entries, ports)
+
+
+def idle_answers_place(right, kind, answer):
+    return 0 if answer == "idle" else right(kind, answer)
 
 
 def refused_read_replaces(right, call, record, words, entries, ports):
@@ -377,20 +479,29 @@ def one_entry_less(right, n, w, list_words):
 
 
 WRONG_CALLS = [
-    (calls.Memory, "enter", never_enters),
+    (calls.Memory, "build_entry", never_enters),
+    (calls.Memory, "assert_", assert_idle),
+    (calls.Memory, "assert_", assert_builds_before_8),
     (calls.Memory, "need_space", one_entry_more),
     (calls.Memory, "record", conditions_kept),
     (tables.Conditions, "add", no_last_node),
     (calls, "row_5", index_nodes_taken),
     (calls, "list_capacity", one_entry_less),
+    (calls, "test_pairs", idle_before_row_6),
+    (calls, "out_word", idle_answers_place),
     (calls.Access, "test", other_ports_untested),
     (calls.Access, "test", port_before_row_4),
     (calls.Access, "test", port_after_row_5),
     (callscript, "run", nothing_cleared),
+    (callscript, "run", write_clears_nothing_by_8),
+    (callscript, "run", idle_clears),
+    (callscript, "run", idle_before_rows),
     (callscript, "run", refused_read_replaces),
     (callscript, "run", fresh_leaves_ports),
     (callscript, "run", fresh_of_held_words),
-] + [(calls.Memory, "read", wrong) for wrong in wrongreads.WRONG_READS]
+]
+WRONG_CALLS += [(calls.Memory, "read", wrong) for wrong in wrongreads.WRONG_READS]
+WRONG_CALLS += [(calls.Memory, "write", wrong) for wrong in wrongwrites.WRONG_WRITES]
 
 
 @contextmanager
@@ -413,12 +524,13 @@ class WrongPrograms(unittest.TestCase):
 
     def test_random_cases_find_each(self):
         """But for the limits, which few random cases meet."""
+        limits = [no_last_node, one_entry_more, assert_builds_before_8, *wrongwrites.WRONG_LIMITS]
         expected = []
         for seed in range(500):
             data, _ = randomcases.random_bytes(seed)
             expected.append((data, memcase(data)))
         for place, name, wrong in WRONG:
-            if wrong not in (no_last_node, one_entry_more):
+            if wrong not in limits:
                 with planted(place, name, wrong):
                     self.assertTrue(any(memcase(data) != text for data, text in expected), wrong.__name__)
 

@@ -155,6 +155,31 @@ class Verdicts(Folders):
             "second: agreed 4, differs 1, hung 0, crashed 0",
         ], simulator("forgets-held-word"), simulator("holds-across-ports"))
 
+    def test_idle_writes(self):
+        """One that gives idle writes a place, and one that counts them; both are right where there are none."""
+        self.put_stored("idle-first", "ruling-09", "ruling-02")
+        self.expect(1, [
+            "case             first    second",
+            "idle-first.case  differs  differs",
+            "  first differs from line 1, byte 7",
+            "    memcase  write idle",
+            "    first    write 0",
+            "  second differs from line 5, byte 7",
+            "    memcase  write 0",
+            "    second   write 3",
+            "ruling-09.case   differs  differs",
+            "  first differs from line 1, byte 7",
+            "    memcase  write idle",
+            "    first    write 0",
+            "  second differs from line 3, byte 5",
+            "    memcase  end 0",
+            "    second   end 1",
+            "",
+            "4 cases",
+            "first: agreed 2, differs 2, hung 0, crashed 0",
+            "second: agreed 2, differs 2, hung 0, crashed 0",
+        ], simulator("enters-idle-writes"), simulator("counts-idle-writes"))
+
     def test_hung(self):
         self.expect(1, [
             "case         first    second",
@@ -371,7 +396,7 @@ class Lines(unittest.TestCase):
         right = memcase(storedcases.named("example-registers").data).encode("ascii")
         self.assertEqual(arbiter.first_difference(right, right), None)
         lines = right.splitlines(keepends=True)
-        self.assertEqual(len(lines), 16)
+        self.assertEqual(len(lines), 18)
         for number, line in enumerate(lines, 1):
             wrong = b"".join(lines[:number - 1]) + b"?" + line + b"".join(lines[number:])
             self.assertEqual(arbiter.first_difference(right, wrong), (number, line, b"?" + line))

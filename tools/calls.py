@@ -25,6 +25,9 @@ WRITE, READ, ASSERT, CHECK, FRESH, EVALUATE, VARIABLE, ITE = range(1, 9)
 NAMES = {WRITE: "write", READ: "read", ASSERT: "assert", CHECK: "check", FRESH: "fresh", EVALUATE: "evaluate",
          VARIABLE: "variable", ITE: "ite"}
 
+# The out-word of a write that is idle; that of one that is entered is its place.
+IDLE = (1 << 32) - 1
+
 # A call's arguments: `control` is the enable's words, or b alone; `other` is what is no slice
 # in the four other calls: n and w; a node and an assignment; a variable; f, g and h.  `port` is
 # a read's.
@@ -77,8 +80,8 @@ class Memory:
         return Record(self.n, self.w, self.conditions.count(), len(self.entries),
                       numbers[self.assert_condition], numbers[self.check_condition])
 
-    def enter(self, control, address, data):
-        """Write without its tests: build h and s and append the entry."""
+    def build_entry(self, control, address, data):
+        """What Write appends: h and s are built."""
         c = self.conditions
         hard = c.and_(control[0], c.not_(control[1]))
         unique = c.true
@@ -86,7 +89,7 @@ class Memory:
             unique = c.and_(unique, c.not_(c.and_(h, l)))
         entry_h = c.and_(hard, unique)
         entry_s = c.or_(c.and_(*control), c.and_(hard, c.not_(unique)))
-        self.entries.append(Entry(entry_h, entry_s, address, data))
+        return Entry(entry_h, entry_s, address, data)
 
     def entry_words(self, first):
         """The list words of the entries from `first` on."""
@@ -124,8 +127,13 @@ class Memory:
         return result
 
     def write(self, control, address, data):
+        """The place of the entry, for which space is needed once it is built; or `idle`, and nothing is
+        built, where the enable is 0 under every assignment."""
+        if control[0] == 0:
+            return "idle"
+        entry = self.build_entry(control, address, data)
         self.need_space()
-        self.enter(control, address, data)
+        self.entries.append(entry)
         return len(self.entries) - 1
 
     def read(self, control, address, port):
@@ -151,7 +159,7 @@ class Memory:
         if c.or_(c.not_(b), c.and_(within, holds)) == c.true:
             return "kept"
         self.need_space()
-        self.enter((b, c.not_(b)), address, data)
+        self.entries.append(self.build_entry((b, c.not_(b)), address, data))
         return "entered"
 
 
@@ -268,7 +276,7 @@ class Access:
         given = pairs([tables[x] for x in self.given])
         test_pairs(self.conditions, call.kind, control, address, given)
         answer = do_access(memory, call.kind, control, address, given, call.port)
-        out = {WRITE: answer, ASSERT: int(answer == "entered")}.get(call.kind)
+        out = out_word(call.kind, answer)
         numbers = self.conditions.numbers
         data = list(call.data)
         if call.kind == READ:
@@ -278,6 +286,13 @@ class Access:
         start = len(self.used_entries())
         self.entries[start:start + len(new)] = new
         return out, memory.record(), self.conditions.words(self.record.nodes), self.entries, data, self.ports
+
+
+def out_word(kind, answer):
+    """The out-word of an access, None where it has none."""
+    if kind == WRITE:
+        return IDLE if answer == "idle" else answer
+    return int(answer == "entered") if kind == ASSERT else None
 
 
 def test_port(kind, port):
@@ -296,7 +311,7 @@ def test_pairs(conditions, kind, control, address, data):
 
 
 def do_access(memory, kind, control, address, data, port):
-    """Rows 8 and 9, and the access itself; its answer."""
+    """Rows 9 and 8, and the access itself; its answer."""
     if kind == WRITE:
         return memory.write(control, address, data)
     if kind == READ:
@@ -361,7 +376,7 @@ def run(call, record, words, entries, ports):
     try:
         return accepted(call, record, words, entries, ports)
     except Refused as refused:
-        if refused.number == 9 or refused.number == 8 and call.kind == ASSERT:
+        if refused.number in (8, 9):
             start, end = 3 * record.nodes, 3 * node_capacity(len(words))
             words[start:end] = [0] * (end - start)
         return Left(refused.number, None, record, words, entries, list(call.data), ports)

@@ -135,7 +135,8 @@ class Builder:
         return [bit() for _ in range(self.case.w)]
 
     def add_write(self):
-        self.case.write(self.enable(), self.address(), self.data())
+        """Some are idle."""
+        self.case.write(ZERO if self.rng.chance(15) else self.enable(), self.address(), self.data())
 
     def add_read(self):
         """Often by a port that was used, under an enable that is not certainly 1."""
@@ -255,13 +256,22 @@ def wordy(rng):
 
 
 def long_list(rng):
-    """As many writes as the list holds, and one more or fewer."""
+    """As many writes as the list holds, and one more or fewer, with idle ones between them.  The last
+    may be idle, or need a node, for which there may be no room."""
     n, w = rng.between(6, 8), rng.between(13, 16)
     case = CaseFile(n, w)
-    entries = 16384 // (2 + 2 * n + 2 * w) + rng.between(-1, 1)
-    for number in range(entries):
-        address = [ONE if number >> i & 1 else ZERO for i in range(n)]
-        case.write(ONE, address, [rng.choice([ZERO, ONE]) for _ in range(w)])
+
+    def add_write(enable, location):
+        case.write(enable, number_bits(location, n), [rng.choice([ZERO, ONE]) for _ in range(w)])
+
+    entries = 16384 // (2 + 2 * n + 2 * w) + rng.choice([-1, 0, 1, 1])
+    for number in range(entries - 1):
+        add_write(ONE, number)
+        if rng.chance(2):
+            add_write(ZERO, number)
+    add_write(rng.choice([ONE, ZERO, (1, case.variable(8))]), 0)
+    if rng.chance(50):
+        case.fill(5461 - 2 - rng.below(2), lowest=57)
     if rng.chance(30):
         case.read(ONE, [ZERO] * n)
     return case
@@ -278,7 +288,7 @@ def valid(rng):
         case = wide(rng)
     elif draw < 930:
         case = wordy(rng)
-    elif draw < 988:
+    elif draw < 980:
         return full(rng)
     else:
         return long_list(rng)
@@ -348,6 +358,16 @@ def wrong_assert(rng, case):
     return case.bytes()
 
 
+def wrong_idle(rng, case):
+    """A write that is idle but for a pair that is neither, or a node that is not there; or an idle one."""
+    count = len(case.nodes) + 2
+    pairs = [ZERO] + [rng.choice([ZERO, ONE, X]) for _ in range(case.n + case.w)]
+    pairs[rng.below(len(pairs))] = rng.choice([ZERO, (0, 0), (0, rng.below(count)), (rng.below(count), 0), (0, 65535)])
+    case.accesses.insert(rng.below(len(case.accesses) + 1),
+                         Access(WRITE, list(pairs[0]), pairs[1:1 + case.n], pairs[1 + case.n:]))
+    return case.bytes()
+
+
 def wrong_size(rng, case):
     if rng.chance(50):
         case.n = rng.choice([0, 9, 10, 255, rng.between(1, 8)])
@@ -408,7 +428,7 @@ def any_bytes(rng, _case):
 
 
 DAMAGES = [cut, changed_bytes, changed_bytes, extended, wrong_kind, wrong_size, wrong_node,
-           wrong_argument, wrong_argument, wrong_argument, wrong_port, wrong_assert, wrong_count, any_bytes]
+           wrong_argument, wrong_argument, wrong_argument, wrong_port, wrong_assert, wrong_idle, wrong_count, any_bytes]
 
 
 def damaged(rng):

@@ -32,8 +32,8 @@ INPUT_BYTES = 65536
 FileAccess = namedtuple("FileAccess", "kind port control address data")
 
 # An access with tables in place of node numbers.  `control` is the enable's pair
-# or the condition b; `answer` is a read's list of pairs, a write's place, an
-# assert's word `entered` or `kept`, and None for a check.
+# or the condition b; `answer` is a read's list of pairs, a write's place or the word
+# `idle`, an assert's word `entered` or `kept`, and None for a check.
 Event = namedtuple("Event", "kind port control address data answer")
 
 # `text` is None in a refused case; `refusal` and `after` are None in an accepted one.
@@ -123,7 +123,7 @@ def as_tables(conditions, access):
 def line_parts(memory, kind, answer):
     """An access's line as a list of strings and tables."""
     if kind == WRITE:
-        return ["write %d" % answer]
+        return ["write %s" % answer]
     if kind == READ:
         parts = ["read"]
         for h, l in reversed(answer):

@@ -1,14 +1,15 @@
 /*
  * The paper's example, once by the calls and once as a case file. Both texts must be the paper's, and
  * both must leave the same record, node words and list words; then a read that is not enabled must give
- * again what its port holds. Else the program says what differs and its status is 1.
+ * again what its port holds, and a write that is never enabled must be idle and change nothing. Else the
+ * program says what differs and its status is 1.
  */
 #include <stdio.h>
 #include <string.h>
 
 #include "mangerday.h"
 
-enum { NODE_WORDS = 96, LIST_WORDS = 24, TEXT_BYTES = 256 };
+enum { NODE_WORDS = 96, LIST_WORDS = 24, ENTRY_WORDS = 6, TEXT_BYTES = 256 };
 
 static const char EXPECTED[] =
     "write 0\n"
@@ -134,6 +135,25 @@ static void hold_port(struct memory *m)
     hold_words("port 0", answer, held, 2);
 }
 
+/* A write whose enable is 0 is idle, in a list that one entry fills, and leaves the memory as it was. */
+static void hold_idle(struct memory *m)
+{
+    static const uint32_t one[2] = {1, 0};
+    static const uint32_t zero[2] = {0, 1};
+    struct memory before = *m;
+    uint32_t place = 0;
+
+    accept("idle write",
+           md_write(m->record, m->nodes, NODE_WORDS, m->list, ENTRY_WORDS, zero, 2, one, 2, one, 2, &place));
+    if (place != MD_IDLE) {
+        printf("idle write: entered at place %u\n", (unsigned)place);
+        failures++;
+    }
+    hold_words("record after the idle write", m->record, before.record, MD_RECORD);
+    hold_words("nodes after the idle write", m->nodes, before.nodes, NODE_WORDS);
+    hold_words("list after the idle write", m->list, before.list, LIST_WORDS);
+}
+
 static void by_case(struct memory *m)
 {
     uint64_t count = 0;
@@ -177,6 +197,7 @@ int main(void)
     hold_words("list", calls.list, whole.list, LIST_WORDS);
     hold_values(&calls);
     hold_port(&calls);
+    hold_idle(&calls);
 
     printf("%.*s", (int)whole.length, whole.text);
     return failures != 0;

@@ -12,6 +12,7 @@ import time
 sys.path.insert(0, os.path.join(os.path.dirname(os.path.abspath(__file__)), os.pardir))
 
 import wrongreads
+import wrongwrites
 from calls import Memory
 from reference import memcase
 
@@ -34,19 +35,29 @@ def loses_unknown():
     write(right_text().replace(" 1:1", " 1:0"))
 
 
-def with_read(wrong):
-    """The text of a simulator whose read is a wrong one."""
-    read = Memory.read
-    Memory.read = lambda *arguments: wrong(read, *arguments)
+def with_wrong(access, wrong):
+    """The text of a simulator of which one access, `read` or `write`, is a wrong one."""
+    right_access = getattr(Memory, access)
+    setattr(Memory, access, lambda *arguments: wrong(right_access, *arguments))
     right()
 
 
 def forgets_held_word():
-    with_read(wrongreads.forgets_held_word)
+    with_wrong("read", wrongreads.forgets_held_word)
 
 
 def holds_across_ports():
-    with_read(wrongreads.holds_across_ports)
+    with_wrong("read", wrongreads.holds_across_ports)
+
+
+def enters_idle_writes():
+    """A write that is idle gets a place."""
+    with_wrong("write", wrongwrites.idle_entered)
+
+
+def counts_idle_writes():
+    """A write that is idle is printed so, and counted as an entry."""
+    with_wrong("write", wrongwrites.idle_counted)
 
 
 def hangs():
@@ -119,10 +130,10 @@ def writes_nothing():
     sys.stdin.buffer.read()
 
 
-WAYS = [right, loses_unknown, forgets_held_word, holds_across_ports, hangs, hangs_after_text,
-        hangs_with_output_closed, leaves_child, ends_by_signal, ends_with_status, ends_with_status_after_text,
-        writes_without_end, complains, complains_without_end, breaks_off, refuses_after_text, reads_nothing,
-        writes_nothing]
+WAYS = [right, loses_unknown, forgets_held_word, holds_across_ports, enters_idle_writes, counts_idle_writes, hangs,
+        hangs_after_text, hangs_with_output_closed, leaves_child, ends_by_signal, ends_with_status,
+        ends_with_status_after_text, writes_without_end, complains, complains_without_end, breaks_off,
+        refuses_after_text, reads_nothing, writes_nothing]
 
 
 if __name__ == "__main__":

@@ -1,15 +1,10 @@
 -- An assert by its rows, and its entry.
 use mathlib.Core.Path.{_≡_, refl, sym, ap, _∙_}
-use mathlib.Core.Bool.{Bool, true, false, cond, not}
+use mathlib.Core.Bool.{Bool, false, cond, not}
 use mathlib.Core.List.{List, [], _∷_}
-use Prim.Native.Nat.{ℕ, _*_, _<_, _≤_}
-use native.Mathlib.Omega.{arith}
-use lib.Dec.{leb}
-use lib.ListN.{length, getD}
-use borrow.Author.Tests.{leb-true, leb-false}
+use Prim.Native.Nat.{ℕ, _<_, _≤_}
 use Rattle.nodes.specs.Search.{every}
 use Rattle.conditions.specs.Stores.{clearOf}
-use Rattle.conditions.specs.declared.Store.{Store}
 use Rattle.conditions.specs.Build.{Outcome}
 use Rattle.conditions.specs.Meet.{together}
 use Rattle.conditions.proofs.Promises.{builds-clear}
@@ -56,13 +51,6 @@ assert-holds r w l b a d e z =
       clears = builds-clear (assert-program σ s b a d F);
       entry-clears = λ y q. ap (λ (y : Outcome built.AssertBuilt). clearOf (built.Write (r .n) b (y .answer .notB) a (y .words) (record { count = y .store .count; full = false }) .words) (r .count)) q ∙ assert-entry-clears σ s b a d F;
     }
-
--- the test of row 8, on the capacity as it was computed
-pub no-space : {k m : ℕ} (e : ℕ) → k ≡ m → leb k e ≡ true → m ≤ e
-no-space {k} e q t = omega (arith, q, leb-true k e t)
-
-pub space-left : {k m : ℕ} (e : ℕ) → k ≡ m → leb k e ≡ false → e < m
-space-left {k} e q t = omega (arith, q, leb-false k e t)
 
 -- an assert's entry goes by the words at entry only where it clears them
 closed-words : (r : Fields) (w w′ l : List ℕ) → clearOf w′ (r .count) ≡ clearOf w (r .count) → (x : Finish) → closed (stateOf r w l) x ≡ closed (stateOf r w′ l) x

@@ -68,7 +68,7 @@ fn enter(
             kept: true,
         };
     }
-    if rows::clear_where(words, r.count, r.list_capacity(list) <= r.entries) {
+    if rows::clear_where(words, r.count, !r.has_space(list)) {
         return AssertDone {
             after: r,
             row: 8,

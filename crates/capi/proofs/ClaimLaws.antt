@@ -5,12 +5,16 @@ use mathlib.Core.List.{List, [], _∷_}
 use native.Mathlib.Omega.{arith}
 use Prim.Native.Nat.{ℕ, suc}
 use lib.ListN.{length}
-use Rattle.model.specs.Step.{State, Call, Answer, refused, done, isRefused, step}
+use Rattle.model.specs.Step.{State, write, Call, access, Answer, refused, done, isRefused, Result, step}
+use Rattle.model.specs.Table.{IdleExactly}
 use Rattle.model.specs.Frames.{clears, wordsAfter, numbers, RefusalLeaves, RefusalNumber, FreshLeaves}
+use Rattle.model.proofs.FactLaws.{write-facts}
+use Rattle.model.proofs.Demand2.{acts, idle-or-entered}
+use Rattle.model.proofs.IdleLaws.{idle-exactly}
 use Rattle.model.proofs.FrameLaws.{refusal-leaves, refusal-number, fresh-leaves}
 use Rattle.capi.specs.Words.{recordIn, wordsOf, stateIn}
-use Rattle.capi.specs.Contract.{numberOf, left, leftBy, called, freshBy, freshed}
-use Rattle.capi.specs.Claims.{ZeroAccepts, RefusedLeaves, FreshRefused}
+use Rattle.capi.specs.Contract.{numberOf, outOf, left, leftBy, called, freshBy, freshed}
+use Rattle.capi.specs.Claims.{ZeroAccepts, RefusedLeaves, IdlePlace, FreshRefused}
 
 -- six words are the words of the record that they are
 pub words-back : (r : List ℕ) → length r ≡ 6 → wordsOf (recordIn r) ≡ r
@@ -38,16 +42,27 @@ numbered-refused (refused j) k q = ap refused q
 numbered-refused (done g) k q = absurd (omega (arith, q))
 
 refused-as : (c : Call) (r w l ps a : List ℕ) (v k : ℕ) → length r ≡ 6 → step c (stateIn r w l ps) .answer ≡ refused (suc k)
-    → leftBy (step c (stateIn r w l ps)) a v ≡ left (suc k) r (wordsAfter (clears c (suc k)) (stateIn r w l ps)) l ps a v
+    → leftBy (step c (stateIn r w l ps)) a v ≡ left (suc k) r (wordsAfter (clears (suc k)) (stateIn r w l ps)) l ps a v
 unfolding RefusalLeaves
 refused-as c r w l ps a v k six e =
     ap (λ (z : Answer). leftBy (record { answer = z; after = step c (stateIn r w l ps) .after }) a v) e
     ∙ ap (λ (z : State). leftBy (record { answer = refused (suc k); after = z }) a v) (refusal-leaves c (stateIn r w l ps) (suc k) e)
-    ∙ ap (λ (z : List ℕ). left (suc k) z (wordsAfter (clears c (suc k)) (stateIn r w l ps)) l ps a v) (words-back r six)
+    ∙ ap (λ (z : List ℕ). left (suc k) z (wordsAfter (clears (suc k)) (stateIn r w l ps)) l ps a v) (words-back r six)
 
 pub refused-leaves : RefusedLeaves
 unfolding RefusedLeaves called
 refused-leaves c r w l ps a v k six e = refused-as c r w l ps a v k six (numbered-refused (step c (stateIn r w l ps) .answer) k e)
+
+pub idle-place : IdlePlace
+unfolding IdlePlace called ZeroAccepts IdleExactly
+idle-place c a d r w l ps v z =
+    let s = stateIn r w l ps in
+    let n = zero-accepts (access (write c a d)) r w l ps [] v z in
+    let most = write-facts s c a d (acts (access (write c a d)) s n .0) .memory .listed .most in
+    let W = idle-exactly c a d s n .idles in (
+      λ q. idle-or-entered s c a d n (λ i e. W .0 (ap (λ (x : Result). x .answer) e)) (λ i e. absurd (omega (arith, most, sym (ap (λ (x : Result). outOf (x .answer) v) e) ∙ q))),
+      λ never. ap (λ (x : Answer). outOf x v) (W .1 never),
+    )
 
 pub fresh-refused : FreshRefused
 unfolding FreshRefused freshed FreshLeaves

@@ -2,7 +2,7 @@
 use mathlib.Core.Bool.{cond}
 use mathlib.Core.List.{List, []}
 use Prim.Native.Nat.{ℕ}
-use Rattle.model.specs.Step.{evaluate, Call, nodeCall, Given, place, filled, entered, kept, accepted, valued, node, Answer, refused, done, Result, step, answerWords, Fresh, fresh}
+use Rattle.model.specs.Step.{evaluate, Call, nodeCall, Given, place, idle, filled, entered, kept, accepted, valued, node, Answer, refused, done, Result, step, answerWords, Fresh, fresh}
 use Rattle.cases.specs.Case.{Answered, accepts, refuses, caseOf}
 use Rattle.capi.specs.Words.{recordIn, wordsOf, stateIn}
 
@@ -11,9 +11,10 @@ abbrev pub numberOf : Answer → ℕ
 numberOf (refused k) = k
 numberOf (done g) = 0
 
--- the out-word that held v: "`value` is 0 or 1; `entered` is 1, or 0 for kept"
+-- the out-word that held v: "`value` is 0 or 1; `entered` is 1, or 0 for kept"; a write's is its place, or `MD_IDLE`, which is no entry's place
 abbrev pub givenOut : Given → ℕ → ℕ
 givenOut (place k) v = k
+givenOut idle v = 4294967295
 givenOut (filled r) v = v
 givenOut entered v = 1
 givenOut kept v = 0

@@ -126,7 +126,7 @@ pub extern "C" fn md_evaluate(
     }
 }
 
-// Write.
+// Write: the place of the entry, or 4294967295 for an idle write.
 #[no_mangle]
 pub extern "C" fn md_write(
     record: &mut [u32; 6],
@@ -143,8 +143,12 @@ pub extern "C" fn md_write(
     put_record(record, x.after);
     let answer = x.answer;
     match answer {
-        WriteAnswer::Place(k) => {
+        WriteAnswer::Entered(k) => {
             *place = k;
+            0
+        }
+        WriteAnswer::Idle => {
+            *place = 4294967295;
             0
         }
         WriteAnswer::Refused(k) => k,

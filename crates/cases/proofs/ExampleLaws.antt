@@ -1,4 +1,4 @@
--- 01's file, as a case, and a case whose ports hold.
+-- 01's file, as a case, a case whose ports hold, and a case with idle writes.
 use mathlib.Core.Path.{_≡_, refl}
 use mathlib.Core.List.{List, [], _∷_, _++_}
 use Prim.Native.Nat.{ℕ, _+_}
@@ -9,11 +9,11 @@ use Rattle.text.specs.Decimal.{decimal, digits}
 use Rattle.conditions.specs.Computing.{computing}
 use Rattle.conditions.specs.Value.{grow, treeOf}
 use Rattle.conditions.specs.Show.{show}
-use Rattle.lines.specs.Lines.{writeLine, bitText, bitsText, readLine, checkLine, endLine}
+use Rattle.lines.specs.Lines.{writeLine, idleLine, bitText, bitsText, readLine, checkLine, endLine}
 use Rattle.model.specs.Record.{Record, listCapacity, appended, replaced}
 use Rattle.model.specs.Access.{uniqueBit, Unique, Certain, Write, narrowBit, Narrow, halfStep, EachHalf, mergeHalf, entryStep, settleHalf, Look, Read, insideHalf, Inside, Check, holdHalf}
 use Rattle.model.specs.Rows.{row1, row3, portsRow}
-use Rattle.model.specs.Step.{unlessFull, finishAccess, step}
+use Rattle.model.specs.Step.{unlessFull, finishWrite, finishAccess, step}
 use Rattle.model.specs.Step as model
 use Rattle.reading.specs.Bytes.{numberAt, numbersAt}
 use Rattle.reading.specs.Kinds.{kindOf, sizeOf, leadOf, portOf}
@@ -54,15 +54,32 @@ held-lines =
     ∷ 101 ∷ 110 ∷ 100 ∷ 32 ∷ 49 ∷ 10
     ∷ []
 
+-- 1@0 with enable 0, 1@1, and 1@1 with enable 0, in a list with space for one entry
+abbrev idling : List ℕ
+idling =
+    1 ∷ 1 ∷ 0 ∷ 0 ∷ 3 ∷ 0
+    ∷ 1 ∷ 0 ∷ 0 ∷ 1 ∷ 0 ∷ 0 ∷ 0 ∷ 1 ∷ 0 ∷ 1 ∷ 0 ∷ 0 ∷ 0
+    ∷ 1 ∷ 1 ∷ 0 ∷ 0 ∷ 0 ∷ 1 ∷ 0 ∷ 0 ∷ 0 ∷ 1 ∷ 0 ∷ 0 ∷ 0
+    ∷ 1 ∷ 0 ∷ 0 ∷ 1 ∷ 0 ∷ 1 ∷ 0 ∷ 0 ∷ 0 ∷ 1 ∷ 0 ∷ 0 ∷ 0
+    ∷ []
+
+-- "write idle", "write 0", "write idle", "end 1"
+abbrev idling-lines : List ℕ
+idling-lines =
+    119 ∷ 114 ∷ 105 ∷ 116 ∷ 101 ∷ 32 ∷ 105 ∷ 100 ∷ 108 ∷ 101 ∷ 10 ∷ 119 ∷ 114 ∷ 105 ∷ 116 ∷ 101 ∷ 32 ∷ 48 ∷ 10
+    ∷ 119 ∷ 114 ∷ 105 ∷ 116 ∷ 101 ∷ 32 ∷ 105 ∷ 100 ∷ 108 ∷ 101 ∷ 10 ∷ 101 ∷ 110 ∷ 100 ∷ 32 ∷ 49 ∷ 10
+    ∷ []
+
 abbrev pub ExamplesPrint : Type 0
 ExamplesPrint =
     Prints example (record { n = 1; w = 1; count = 10; entries = 1; asserted = 1; checked = 3 }) example-lines
     × Prints held (record { n = 1; w = 1; count = 4; entries = 1; asserted = 1; checked = 1 }) held-lines
+    × Prints idling (record { n = 1; w = 1; count = 2; entries = 1; asserted = 1; checked = 1 }) idling-lines
 
 pub examples-print : ExamplesPrint
 unfolding
     put written text.appended decimal digits computing grow treeOf show
-    writeLine bitText bitsText readLine checkLine endLine
+    writeLine idleLine bitText bitsText readLine checkLine endLine
     listCapacity appended replaced uniqueBit Unique Certain Write narrowBit Narrow halfStep EachHalf mergeHalf entryStep settleHalf Look holdHalf Read insideHalf Inside Check
-    row1 row3 portsRow model.closed unlessFull finishAccess step numberAt numbersAt kindOf sizeOf leadOf portOf accessAt withNodes sections callOf done one rest last whole caseOf
-examples-print = ((refl, refl), (refl, refl))
+    row1 row3 portsRow model.closed unlessFull finishWrite finishAccess step numberAt numbersAt kindOf sizeOf leadOf portOf accessAt withNodes sections callOf done one rest last whole caseOf
+examples-print = ((refl, refl), (refl, refl), (refl, refl))

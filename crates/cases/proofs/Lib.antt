@@ -5,5 +5,6 @@ pub mod CaseLaws
 pub mod AcceptedLaws
 pub mod RefusedLaws
 pub mod PrintLaws
+pub mod WriteLaws
 pub mod NumberLaws
 pub mod ExampleLaws

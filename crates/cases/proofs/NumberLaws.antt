@@ -92,7 +92,7 @@ module _ (p n w : ℕ) (ops : List ℕ) (s : State) (en : s .rec .n ≡ n) (ew :
 
   row-four : (k : Kind) → length ops ≡ sizeOf k n w → refusal (callOf k p n w ops) s ≡ 4 → ⊥
   unfolding callOf sizeOf
-  row-four kind.Write z = passes-not 3 (writeRows (s .rec) (s .words) (s .list) (part ops 0 2) (part ops 2 (2 + 2 * n)) (part ops (2 + 2 * n) (2 + 2 * n + 2 * w))) (λ e. no e refl, (λ e. no e refl, (λ e. no e refl, (λ _. lengths (part-size ops 0 2 (omega arith)) (address 2 (omega arith)) (word (2 + 2 * n) (omega arith)), (λ e. no e refl, (λ e. no e refl, (λ e. no e refl, tt)))))))
+  row-four kind.Write z = passes-not 3 (writeRows (s .rec) (s .words) (s .list) (part ops 0 2) (part ops 2 (2 + 2 * n)) (part ops (2 + 2 * n) (2 + 2 * n + 2 * w))) (λ e. no e refl, (λ e. no e refl, (λ e. no e refl, (λ _. lengths (part-size ops 0 2 (omega arith)) (address 2 (omega arith)) (word (2 + 2 * n) (omega arith)), (λ e. no e refl, (λ e. no e refl, tt))))))
   row-four kind.Read z = passes-not 3 (readRows (s .rec) (s .words) (s .list) (s .ports) p (part ops 0 2) (part ops 2 (2 + 2 * n)) (replicate (2 * w) 0)) (λ e. no e refl, (λ e. no e refl, (λ e. no e refl, (λ _. lengths (part-size ops 0 2 (omega arith)) (address 2 (omega arith)) (length-replicate {A = ℕ} (2 * w) 0 ∙ ap (λ (x : ℕ). 2 * x) (sym ew)), (λ e. no e refl, (λ e. no e refl, (λ e. no e refl, tt)))))))
   row-four kind.Assert z = passes-not 3 (assertRows (s .rec) (s .words) (s .list) (getD ops 0 0) (part ops 1 (1 + 2 * n)) (part ops (1 + 2 * n) (1 + 2 * n + 2 * w))) (λ e. no e refl, (λ e. no e refl, (λ e. no e refl, (λ _. both-and (eq-eqb _ _ (address 1 (omega arith))) (eq-eqb _ _ (word (1 + 2 * n) (omega arith))), (λ e. no e refl, (λ e. no e refl, (λ e. no e refl, tt)))))))
   row-four kind.Check z = passes-not 3 (checkRows (s .rec) (s .words) (s .list) (getD ops 0 0) (part ops 1 (1 + 2 * n)) (part ops (1 + 2 * n) (1 + 2 * n + 2 * w))) (λ e. no e refl, (λ e. no e refl, (λ e. no e refl, (λ _. both-and (eq-eqb _ _ (address 1 (omega arith))) (eq-eqb _ _ (word (1 + 2 * n) (omega arith))), (λ e. no e refl, (λ e. no e refl, tt))))))

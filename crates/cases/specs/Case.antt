@@ -5,9 +5,9 @@ use Prim.Native.Nat.{ℕ, zero, suc, _+_, _*_}
 use lib.Dec.{ltb}
 use lib.ListN.{length, getD, take, replicate}
 use Rattle.text.specs.Text.{Out, growing, appended}
-use Rattle.lines.specs.Lines.{writeLine, readLine, assertLine, checkLine, endLine, refusedLine}
+use Rattle.lines.specs.Lines.{writeLine, idleLine, readLine, assertLine, checkLine, endLine, refusedLine}
 use Rattle.model.specs.Record.{Record, part, freshPorts}
-use Rattle.model.specs.Step.{State, write, read, assert, check, evaluate, Call, access, nodeCall, Given, place, filled, entered, kept, accepted, valued, node, Answer, step}
+use Rattle.model.specs.Step.{State, write, read, assert, check, evaluate, Call, access, nodeCall, Given, place, idle, filled, entered, kept, accepted, valued, node, Answer, step}
 use Rattle.model.specs.Step as step
 use Rattle.reading.specs.declared.Kind.{Kind}
 use Rattle.reading.specs.declared.Kind.the-variants as kind
@@ -26,9 +26,10 @@ callOf kind.Assert p n w ops = access (assert (getD ops 0 0) (part ops 1 (1 + 2 
 callOf kind.Check p n w ops = access (check (getD ops 0 0) (part ops 1 (1 + 2 * n)) (part ops (1 + 2 * n) (1 + 2 * n + 2 * w)))
 callOf kind.Unknown p n w ops = nodeCall (evaluate 0 0)
 
--- "Lines: a write's entry place; a read's h:l for each bit ..; the check condition". "An assert prints `assert entered` or `assert kept`, a space, the assert condition.": the line of an access by its answer and the state after it
+-- "Lines: a write's entry place; a read's h:l for each bit ..; the check condition", and 02's `write idle`. "An assert prints `assert entered` or `assert kept`, a space, the assert condition.": the line of an access by its answer and the state after it
 abbrev pub givenLine : Given → State → List ℕ
 givenLine (place k) s = writeLine k
+givenLine idle s = idleLine
 givenLine (filled r) s = readLine (s .words) r
 givenLine entered s = assertLine (s .words) true (s .rec .asserted)
 givenLine kept s = assertLine (s .words) false (s .rec .asserted)

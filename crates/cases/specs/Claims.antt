@@ -8,11 +8,12 @@ use lib.Dec.{T}
 use lib.ListN.{length, getD, drop}
 use Rattle.conditions.specs.Value.{value}
 use Rattle.conditions.specs.Assignment.{bitAt}
-use Rattle.lines.specs.Lines.{endLine, refusedLine}
+use Rattle.lines.specs.Lines.{writeLine, idleLine, endLine, refusedLine}
 use Rattle.model.specs.Record.{Record, freshPorts}
-use Rattle.model.specs.Step.{State, Call, Answer, refused, isRefused, step, run}
+use Rattle.model.specs.Step.{State, write, Call, access, Answer, refused, isRefused, step, run}
 use Rattle.model.specs.Array.{Run, observed, Allowed}
 use Rattle.model.specs.Claims.{events, Exactly}
+use Rattle.model.specs.Table.{NeverOne, MayBeOne}
 use Rattle.reading.specs.Bytes.{numbersAt}
 use Rattle.reading.specs.Kinds.{sizeOf}
 use Rattle.reading.specs.Accesses.{found, kindAt, nodesAt, endOf, accessAt, portIn}
@@ -52,6 +53,14 @@ AllAccepted (c ∷ cs) s = (isRefused (step c s .answer) ≡ false) × AllAccept
 abbrev pub linesOf : List Call → State → List ℕ
 linesOf [] s = endLine (s .rec .entries)
 linesOf (c ∷ cs) s = lineOf (step c s .answer) (step c s .after) ++ linesOf cs (step c s .after)
+
+-- 02: the line of an accepted write says `write idle` exactly where its enable is 0 under every assignment, and else its place, the count of entries before it
+pub record WriteSays (c a d : List ℕ) (s : State) : Type 0 where
+  pub idles : (lineOf (step (access (write c a d)) s .answer) (step (access (write c a d)) s .after) ≡ idleLine) ↔ NeverOne s c
+  pub enters : (lineOf (step (access (write c a d)) s .answer) (step (access (write c a d)) s .after) ≡ writeLine (s .rec .entries)) ↔ MayBeOne s c
+
+unfoldable pub WriteLine : Type 0
+WriteLine = (c a d : List ℕ) (s : State) → isRefused (step (access (write c a d)) s .answer) ≡ false → WriteSays c a d s
 
 -- the sections of a file are read
 abbrev pub SectionsReady : List ℕ → List ℕ → Type 0

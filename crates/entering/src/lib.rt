@@ -58,8 +58,12 @@ pub fn do_write(
     let after = r.after;
     let answer = r.answer;
     match answer {
-        WriteAnswer::Place(place) => {
+        WriteAnswer::Entered(place) => {
             let t = lines::put_write(buf, c.text, place);
+            printed(after, t, c.at)
+        }
+        WriteAnswer::Idle => {
+            let t = lines::put_idle(buf, c.text);
             printed(after, t, c.at)
         }
         WriteAnswer::Refused(k) => Step::Refused(k),

@@ -1,4 +1,4 @@
--- Demand 2, of the lines: they are the same bytes exactly when the conditions in them agree under every assignment.
+-- Demand 2, of the lines: they are the same bytes exactly when the conditions in them agree under every assignment, and those of writes when they say the same.
 use mathlib.Core.Path.{_≡_, refl, sym, ap, subst}
 use mathlib.Core.Bool.{Bool, true, false}
 use mathlib.Core.List.{List, [], _∷_, _++_, append-assoc}
@@ -8,14 +8,22 @@ use borrow.Author.Tests.{ltb-true, ltb-false, eqb-true, eqb-false}
 use lib.Dec.{ltb, eqb}
 use lib.ListN.{length, getD}
 use Rattle.text.proofs.ByteLaws.{heads, tails, after}
+use Rattle.text.proofs.DecimalLaws.{digit-first, decimal-then}
 use Rattle.conditions.specs.Show.{textOf, Alike}
 use Rattle.conditions.proofs.Promises.{text-first, same-text, text-same}
-use Rattle.lines.specs.Lines.{bitText, bitsText, readWord, readLine, assertWord, assertLine, checkWord, checkLine}
-use Rattle.lines.specs.Claims.{Printed, PrintedWord, CheckLines, AssertLines, ReadLines}
+use Rattle.lines.specs.Lines.{writeWord, writeLine, idleLine, bitText, bitsText, readWord, readLine, assertWord, assertLine, checkWord, checkLine}
+use Rattle.lines.specs.Claims.{WriteLines, Printed, PrintedWord, CheckLines, AssertLines, ReadLines}
 
 -- conditions that are alike have the same text
 alike-text : {w w′ : List ℕ} {c c′ n n′ : ℕ} → Printed w c n → Printed w′ c′ n′ → Alike w n w′ n′ → textOf w n ≡ textOf w′ n′
 alike-text {n = n} {n′ = n′} p p′ a = text-same (p .standard) (p′ .standard) n n′ (p .below) (p′ .below) a
+
+pub write-lines : WriteLines
+unfolding WriteLines writeLine idleLine
+write-lines k k′ = (
+  (λ e. decimal-then k k′ 10 10 [] [] (omega arith) (omega arith) (after writeWord e) .0, λ e. rw e),
+  λ e. omega (arith, digit-first k (10 ∷ []) (100 ∷ 108 ∷ 101 ∷ 10 ∷ []) 105 (after writeWord e) .1),
+)
 
 pub check-lines : CheckLines
 unfolding CheckLines checkLine

@@ -6,7 +6,7 @@ use Prim.Native.Nat.{ℕ}
 use Rattle.text.specs.Decimal.{digits, decimal}
 use Rattle.conditions.specs.Value.{grow, treeOf}
 use Rattle.conditions.specs.Show.{show}
-use Rattle.lines.specs.Lines.{writeLine, bitText, bitsText, readLine, assertWord, assertLine, checkLine, endLine, refusedLine}
+use Rattle.lines.specs.Lines.{writeLine, idleLine, bitText, bitsText, readLine, assertWord, assertLine, checkLine, endLine, refusedLine}
 
 -- the terminals, node 2 (8,0,1) and node 3 (8,1,0)
 abbrev stored : List ℕ
@@ -16,6 +16,11 @@ stored = 64 ∷ 0 ∷ 0 ∷ 64 ∷ 1 ∷ 1 ∷ 8 ∷ 0 ∷ 1 ∷ 8 ∷ 1 ∷ 0 �
 pub write-0 : writeLine 0 ≡ 119 ∷ 114 ∷ 105 ∷ 116 ∷ 101 ∷ 32 ∷ 48 ∷ 10 ∷ []
 unfolding writeLine decimal digits
 write-0 = refl
+
+-- "write idle"
+pub write-idle : idleLine ≡ 119 ∷ 114 ∷ 105 ∷ 116 ∷ 101 ∷ 32 ∷ 105 ∷ 100 ∷ 108 ∷ 101 ∷ 10 ∷ []
+unfolding idleLine
+write-idle = refl
 
 -- "read 1:(8 0 1)"
 pub read-one-bit : readLine stored (1 ∷ 2 ∷ []) ≡ 114 ∷ 101 ∷ 97 ∷ 100 ∷ 32 ∷ 49 ∷ 58 ∷ 40 ∷ 56 ∷ 32 ∷ 48 ∷ 32 ∷ 49 ∷ 41 ∷ 10 ∷ []

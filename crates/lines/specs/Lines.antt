@@ -18,6 +18,10 @@ writeWord = 119 ∷ 114 ∷ 105 ∷ 116 ∷ 101 ∷ 32 ∷ []
 unfoldable pub writeLine : ℕ → List ℕ
 writeLine place = line (writeWord ++ decimal place)
 
+-- 02: an idle write "prints `write idle`": i d l e
+unfoldable pub idleLine : List ℕ
+idleLine = line (writeWord ++ 105 ∷ 100 ∷ 108 ∷ 101 ∷ [])
+
 -- one bit of a read: a space, "h:l"
 unfoldable pub bitText : List ℕ → ℕ → ℕ → List ℕ
 bitText w h l = 32 ∷ textOf w h ++ 58 ∷ textOf w l

@@ -4,7 +4,7 @@ ghost use Prim.Native.Nat.{ℕ, _+_, _*_, _/_, _<_, _≤_};
 ghost use lib.ListN.{length, getD};
 ghost use Rattle.text.specs.Text.{out, appended};
 ghost use Rattle.nodes.specs.Standard.{Standard};
-ghost use Rattle.lines.specs.Lines.{writeLine, bitText, bitsText, readLine, assertWord, assertLine, checkLine, endLine, refusedLine};
+ghost use Rattle.lines.specs.Lines.{writeLine, idleLine, bitText, bitsText, readLine, assertWord, assertLine, checkLine, endLine, refusedLine};
 use text::Text;
 
 // A write's entry place.
@@ -14,6 +14,13 @@ pub fn put_write(buf: &mut [u8], t: Text, place: u32) -> Text
     let a = text::put_bytes(buf, t, b"write ");
     let b = text::put_decimal(buf, a, place);
     text::put_byte(buf, b, b'\n')
+}
+
+// An idle write.
+pub fn put_idle(buf: &mut [u8], t: Text) -> Text
+    ensures { λ r. ⌜ out (now (buf .exit)) r ≡ appended idleLine (out (now (buf .entry)) t) ⌝ }
+{
+    text::put_bytes(buf, t, b"write idle\n")
 }
 
 // One bit of a word: a space, h, a colon, l.

@@ -1,18 +1,17 @@
 -- What a call below promised of the fields, said of the record.
-use mathlib.Core.Path.{_≡_, refl, sym, ap, subst, _∙_}
-use mathlib.Core.Bool.{Bool, true, false}
+use mathlib.Core.Path.{_≡_, refl, sym, subst}
+use mathlib.Core.Bool.{Bool, true, false, cond}
 use mathlib.Core.List.{List}
 use Prim.Native.Nat.{ℕ, zero, suc}
 use Rattle.model.specs.Record as model
-use Rattle.model.specs.Step.{State, Access, read, NodeCall, Given, filled, kept, entered, Answer, refused, done, answerWords, Call, access, nodeCall}
+use Rattle.model.specs.Step.{Access, read, NodeCall, Given, Answer, refused, done, answerWords, access, nodeCall}
 use Rattle.model.specs.Chain.{AnswersNode, numbered}
 use Rattle.rows.specs.declared.Fields.{Fields}
 use Rattle.rows.specs.Contract as rows
 use Rattle.read_access.specs.Contract.{Reads, ReadsOn}
-use Rattle.assert_access.specs.Contract.{assertAnswer}
 use Rattle.memory.specs.declared.Record.{Record}
 use Rattle.memory.specs.declared.ReadAnswer.{ReadAnswer}
-use Rattle.memory.specs.Contract.{fieldsOf, recordOf, stateOf, memoryOf, readAnswer, Says, Answers, AnswersAnyPorts, AnswersOnAnyPorts, ReadAnswers, ReadAnswersOn}
+use Rattle.memory.specs.Contract.{recordOf, stateOf, memoryOf, readAnswer, Says, Answers, AnswersAnyPorts, AnswersOnAnyPorts, ReadAnswers, ReadAnswersOn}
 use Rattle.model.specs.Frames.{isRead}
 use Rattle.model.proofs.UnseenLaws.{any-ports}
 
@@ -28,11 +27,12 @@ pub refused-numbered : (k : ℕ) → (k ≡ 0 → ⊥) → refused k ≡ numbere
 refused-numbered zero n = absurd (n refl)
 refused-numbered (suc k) n = refl
 
-pub kept-by : {k : ℕ} {b : Bool} → k ≡ 0 → b ≡ true → done kept ≡ assertAnswer k b
-kept-by z e = rw (z, e)
+-- and, of two that it may give, by the test that tells them apart
+pub first-by : {k : ℕ} {b : Bool} (x y : Given) → k ≡ 0 → b ≡ true → done x ≡ rows.unlessRefused k (cond b x y)
+first-by x y z e = rw (z, e)
 
-pub entered-by : {k : ℕ} {b : Bool} → k ≡ 0 → b ≡ false → done entered ≡ assertAnswer k b
-entered-by z e = rw (z, e)
+pub second-by : {k : ℕ} {b : Bool} (x y : Given) → k ≡ 0 → b ≡ false → done y ≡ rows.unlessRefused k (cond b x y)
+second-by x y z e = rw (z, e)
 
 -- a call that is lent no ports
 module _ (c : NodeCall) (g : Record) (w l : List ℕ) (r : Record) {f : Fields} (w′ : List ℕ) (a : Answer) {b : Answer} (S : Says r f a b) where

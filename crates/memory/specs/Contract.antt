@@ -4,7 +4,7 @@ use mathlib.Core.Bool.{Bool}
 use mathlib.Core.List.{List}
 use Prim.Native.Nat.{ℕ}
 use Rattle.model.specs.Record as model
-use Rattle.model.specs.Step.{State, NodeCall, read, place, filled, entered, kept, accepted, valued, node, Answer, refused, done, answerWords, Access}
+use Rattle.model.specs.Step.{State, NodeCall, read, place, idle, filled, entered, kept, accepted, valued, node, Answer, refused, done, answerWords, Access}
 use Rattle.rows.specs.declared.Fields.{Fields}
 use Rattle.rows.specs.Contract as rows
 use Rattle.model.specs.Chain.{AnswersNode}
@@ -45,7 +45,8 @@ freshAnswer fresh.Accepted = done accepted
 freshAnswer (fresh.Refused k) = refused k
 
 abbrev pub writeAnswer : WriteAnswer → Answer
-writeAnswer (write.Place k) = done (place k)
+writeAnswer (write.Entered k) = done (place k)
+writeAnswer write.Idle = done idle
 writeAnswer (write.Refused k) = refused k
 
 -- a filled read's answer are the words that it filled

@@ -3,10 +3,11 @@ ghost use mathlib.Core.Path.{_≡_};
 ghost use Prim.Native.Nat.{_*_};
 ghost use lib.ListN.{length};
 ghost use Rattle.conditions.specs.Contract.{Sound};
-ghost use Rattle.model.specs.Step.{place, accepted, node, valued, begin, write, assert, check, evaluate, variable, ite, fresh};
+ghost use Rattle.model.specs.Step.{accepted, node, valued, begin, write, assert, check, evaluate, variable, ite, fresh};
 ghost use Rattle.model.specs.Frames.{Valid, PortsValid};
 ghost use Rattle.rows.specs.Contract.{unlessRefused};
 ghost use Rattle.node_calls.specs.Contract.{numbered, freshed};
+ghost use Rattle.write_access.specs.Contract as write_access;
 ghost use Rattle.assert_access.specs.Contract as assert_access;
 ghost use Rattle.memory.specs.Contract.{fieldsOf, recordOf, stateOf, memoryOf, freshAnswer, writeAnswer, assertAnswer, checkAnswer, nodeAnswer, valueAnswer, Says, SaysRead, AnswersAnyPorts, AnswersOnAnyPorts, AnswersNoList, ReadAnswers, ReadAnswersOn};
 use access::ControlNode;
@@ -16,6 +17,7 @@ use node_calls::NodeDone;
 use node_calls::ValueDone;
 use rows::Done;
 use rows::Fields;
+use write_access::WriteDone;
 
 // A memory of n address bits and w data bits: its counts of nodes and entries, and its two conditions.
 pub struct Record {
@@ -32,8 +34,10 @@ pub enum FreshAnswer {
     Refused(u32),
 }
 
+// A write is entered, at a place counted from 0, or idle.
 pub enum WriteAnswer {
-    Place(u32),
+    Entered(u32),
+    Idle,
     Refused(u32),
 }
 
@@ -131,8 +135,8 @@ fn fresh_result(d: Done) -> FreshResult
     }
 }
 
-fn write_result(d: Done, at: u32) -> WriteResult
-    ensures { λ x. ⌜ Says (x .after) (d .after) (writeAnswer (x .answer)) (unlessRefused (d .row) (place at)) ⌝ }
+fn write_result(d: WriteDone, at: u32) -> WriteResult
+    ensures { λ x. ⌜ Says (x .after) (d .after) (writeAnswer (x .answer)) (write_access.writeAnswer (d .row) (d .idle) at) ⌝ }
 {
     let after = recorded(d.after);
     let k = d.row;
@@ -142,9 +146,15 @@ fn write_result(d: Done, at: u32) -> WriteResult
             answer: WriteAnswer::Refused(k),
         };
     }
+    if d.idle {
+        return WriteResult {
+            after,
+            answer: WriteAnswer::Idle,
+        };
+    }
     WriteResult {
         after,
-        answer: WriteAnswer::Place(at),
+        answer: WriteAnswer::Entered(at),
     }
 }
 
@@ -281,7 +291,7 @@ impl Record {
         node_result(node_calls::ite(self.fields(), words, f, g, h))
     }
 
-    // A write to a valid memory: rows 5 to 9, and the entry.
+    // A write to a valid memory: rows 5 and 6; then it is idle, or rows 9 and 8, and the entry.
     pub fn write_on(
         self,
         words: &mut [u32],

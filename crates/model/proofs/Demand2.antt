@@ -1,28 +1,26 @@
 -- Demand 2: what each answer and condition means, under every 64-bit assignment.
 use mathlib.Core.Path.{_≡_, refl, sym, ap, _∙_}
 use mathlib.Core.Logic.{_↔_}
-use mathlib.Core.Bool.{Bool, true, false, cond, _&&_, not, true≢false}
-use mathlib.Core.List.{List, []}
+use mathlib.Core.Bool.{Bool, true, false, cond, _&&_, not, true≢false, false≢true}
+use mathlib.Core.List.{List}
 use Prim.Native.Nat.{ℕ, zero, suc, _^_, _<_}
 use native.Mathlib.Omega.{arith}
 use lib.Dec.{T, eqb}
 use borrow.Author.Tests.{eqb-false}
 use Rattle.nodes.proofs.BoolLaws.{split, iff-same}
-use Rattle.conditions.specs.Stores.{Standard}
 use Rattle.conditions.specs.declared.Store.{Store}
 use Rattle.conditions.specs.Build.{Outcome}
 use Rattle.conditions.specs.Make.{Variable}
 use Rattle.conditions.specs.Ite.{Ite}
 use Rattle.conditions.specs.Value.{value}
 use Rattle.conditions.specs.Assignment.{bitAt}
-use Rattle.conditions.specs.Meet.{neither}
 use Rattle.conditions.specs.Meaning.{Builds}
-use Rattle.conditions.proofs.Promises.{ite-builds, variable-builds, neither-decides, value-1, one-node}
+use Rattle.conditions.proofs.Promises.{ite-builds, variable-builds}
 use Rattle.model.specs.Pairs.{Pair, admit}
 use Rattle.model.specs.Record.{Record}
 use Rattle.model.specs.Access.{Marks, Write, AssertBuilt}
-use Rattle.model.specs.Rows.{row8}
-use Rattle.model.specs.Step.{State, write, read, assert, check, evaluate, variable, ite, Call, access, nodeCall, Given, place, filled, entered, kept, accepted, valued, node, done, isRefused, Result, refusal, Finish, full, short, gives, closed, unlessFull, begin, grown, withEntry, withAssertCondition, assertFirst, enter, finishAccess, finishNode, finish, turnedDownBy, step}
+use Rattle.model.specs.Rows.{spaceFor}
+use Rattle.model.specs.Step.{State, write, read, assert, check, evaluate, variable, ite, Call, access, nodeCall, place, idle, filled, entered, kept, accepted, valued, node, done, isRefused, Result, refusal, Finish, full, gives, closed, unlessFull, begin, grown, withEntry, withAssertCondition, assertFirst, enter, isIdle, finishWrite, finishAccess, finishNode, finish, turnedDownBy, step, writeBuilt}
 use Rattle.model.specs.Published.{answer, assertHolds, checkHolds, keeps, control}
 use Rattle.model.specs.Claims.{pairAt}
 use Rattle.model.specs.Meanings.{entryValues, addressArgument, wordArgument, Enters, Demand2, EnteredWhere, portValue}
@@ -30,14 +28,15 @@ use Rattle.model.specs.Table.{MemoryFacts, ReadFacts}
 use Rattle.model.proofs.PairLaws.{T→eq, eq→T}
 use Rattle.model.proofs.MeansLaws.{Means, up, near-self}
 use Rattle.model.proofs.AccessLaws.{AssertBuiltMean}
+use Rattle.model.proofs.TerminalLaws.{somewhere-false, idle-off}
 use Rattle.model.proofs.FactLaws.{write-facts, read-facts, check-facts, assert-facts, variable-facts, ite-facts}
-use Rattle.model.proofs.StepLaws.{isKept, Holds, Follows, step-follows, free-store, pair-is, assert-builds, enter-builds, PortsMean, port-is}
+use Rattle.model.proofs.StepLaws.{isLeftOut, Holds, Follows, step-follows, free-store, pair-is, assert-builds, enter-builds, PortsMean, port-is}
 use Rattle.model.proofs.EntryLaws.{held, holds-values, holds-enters, holds-stays}
 use Rattle.model.proofs.ProgramLaws.{port-halves}
 use lib.ListN.{length}
 
 -- a call that is not refused meets no row, and is what it comes to
-acts : (c : Call) (s : State) → isRefused (step c s .answer) ≡ false → (refusal c s ≡ 0) × (step c s ≡ closed s (finish c s))
+pub acts : (c : Call) (s : State) → isRefused (step c s .answer) ≡ false → (refusal c s ≡ 0) × (step c s ≡ closed s (finish c s))
 unfolding step
 acts c s q = go (refusal c s) refl q
   where
@@ -50,6 +49,21 @@ free : {A : Type 0} (s : State) (y : Outcome A) (k : A → List ℕ → ℕ → 
     → (y .store .full ≡ false) × (x ≡ closed s (k (y .answer) (y .words) (y .store .count)))
 unfolding unlessFull closed
 free s y k x e q = split (y .store .full) (λ t. absurd (true≢false (rw (e, t) at q))) (λ t. (t, rw t at e))
+
+-- such a write is idle, or entered by its Write
+module _ (s : State) (c a d : List ℕ) (n : isRefused (step (access (write c a d)) s .answer) ≡ false) where
+  abbrev built : Outcome Marks
+  built = writeBuilt c a s
+
+  pub idle-or-entered : {C : Type 0} → (isIdle c ≡ true → step (access (write c a d)) s ≡ record { answer = done idle; after = s } → C)
+      → (isIdle c ≡ false → step (access (write c a d)) s ≡ record { answer = done (place (s .rec .entries)); after = withEntry (grown s (built .words) (built .store .count)) (built .answer) a d } → C)
+      → C
+  unfolding finishAccess finishWrite closed
+  idle-or-entered f g =
+      let e = acts (access (write c a d)) s n .1 in
+      split (isIdle c) (λ i. f i (rw i at e))
+      (λ i. let z = free s built _ _ (rw i at e) n .1 in
+      split (spaceFor (s .rec) (s .words) 1 (s .list)) (λ u. g i (rw u at z)) (λ u. absurd (true≢false (rw (z, u) at n))))
 
 -- such an assert
 module _ (s : State) (b : ℕ) (a d : List ℕ) (n : isRefused (step (access (assert b a d)) s .answer) ≡ false) where
@@ -65,7 +79,7 @@ module _ (s : State) (b : ℕ) (a d : List ℕ) (n : isRefused (step (access (as
   asserts = free s x (enter s b a d) _ (acts (access (assert b a d)) s n .1) n
 
   -- it is kept, or entered by its Write
-  kept-or-entered : {C : Type 0} → (step (access (assert b a d)) s ≡ record { answer = done kept; after = withAssertCondition (grown s (x .words) (x .store .count)) (x .answer .condition) } → C)
+  pub kept-or-entered : {C : Type 0} → (step (access (assert b a d)) s ≡ record { answer = done kept; after = withAssertCondition (grown s (x .words) (x .store .count)) (x .answer .condition) } → C)
       → (eqb (x .answer .keep) 1 ≡ false → y .store .full ≡ false
       → step (access (assert b a d)) s ≡ record { answer = done entered; after = withEntry (withAssertCondition (grown s (y .words) (y .store .count)) (x .answer .condition)) (y .answer) a d } → C)
       → C
@@ -73,7 +87,7 @@ module _ (s : State) (b : ℕ) (a d : List ℕ) (n : isRefused (step (access (as
   kept-or-entered f g =
       let e = asserts .1 in
       split (eqb (x .answer .keep) 1) (λ t. f (rw t at e))
-      (λ t. split (row8 (s .rec) (s .words) (s .list))
+      (λ t. split (spaceFor (s .rec) (s .words) 1 (s .list))
       (λ u. let z = free s y _ _ (rw (t, u) at e) n in g t (z .0) (z .1))
       (λ u. absurd (true≢false (rw (e, t, u) at n))))
 
@@ -96,13 +110,17 @@ module _ (a : ℕ) (small : a < 2 ^ 64) (s : State) where
   values-held M = holds-values φ s M
 
   write-enters : (c x d : List ℕ) (k : ℕ) → step (access (write c x d)) s .answer ≡ done (place k) → (k ≡ r .entries) × Enters φ s (step (access (write c x d)) s .after) (pairAt φ (s .words) c 0) x d
-  unfolding finishAccess finishNode closed
   write-enters c x d k q =
       let n : isRefused (step (access (write c x d)) s .answer) ≡ false = ap isRefused q in
-      let A = acts (access (write c x d)) s n in
-      let F = step-follows a small s (held φ s) (values-held (write-facts s c x d (A .0) .memory)) (access (write c x d)) in
-      let e : done (place k) ≡ done (place (r .entries)) = sym q ∙ ap (λ (z : Result). z .answer) (free s _ _ _ (A .1) n .1) in
-      (cc, holds-enters φ s _ (pairAt φ (s .words) c 0) x d (F .same-w) (rw q at (F .holds)))
+      let F = step-follows a small s (held φ s) (values-held (write-facts s c x d (acts (access (write c x d)) s n .0) .memory)) (access (write c x d)) in
+      let e : k ≡ r .entries
+      = idle-or-entered s c x d n (λ i z. absurd (true≢false (ap isLeftOut (rw z at q))))
+      (λ i z. let y : done (place k) ≡ done (place (r .entries)) = sym q ∙ ap (λ (z : Result). z .answer) z in cc) in
+      (e, holds-enters φ s _ (pairAt φ (s .words) c 0) x d (F .same-w) (rw q at (F .holds)))
+
+  write-idles : (c x d : List ℕ) → step (access (write c x d)) s .answer ≡ done idle → (pairAt φ (s .words) c 0 .h ≡ false) × (entryValues φ (step (access (write c x d)) s .after) ≡ entryValues φ s)
+  write-idles c x d q =
+      idle-or-entered s c x d (ap isRefused q) (λ i e. (idle-off c (s .words) φ i, ap (λ (z : Result). entryValues φ (z .after)) e)) (λ i e. absurd (false≢true (ap isLeftOut (rw e at q))))
 
   -- a read that fills words
   module _ (p : ℕ) (e x out ws : List ℕ) (q : step (access (read p e x out)) s .answer ≡ done (filled ws)) where
@@ -209,10 +227,11 @@ unfolding Demand2
 demand2 s a small =
     record {
       write-enters = write-enters a small s;
+      write-idles = write-idles a small s;
       read-fills = read-fills a small s;
       read-held = read-held a small s;
       assert-condition = assert-condition a small s;
-      assert-kept = λ b x d q. T→eq _ ((rw q at (assert-follows a small s b x d (ap isRefused q) .keeping)) refl);
+      assert-kept = λ b x d q. T→eq _ ((rw q at (assert-follows a small s b x d (ap isRefused q) .left-out)) refl);
       read-stays = read-stays a small s;
       kept-stays = λ b x d q.
           let F = assert-follows a small s b x d (ap isRefused q) in
@@ -227,22 +246,12 @@ demand2 s a small =
       ite-node = ite-node a small s;
     }
 
--- a node that is not node 1 is false under some 64-bit assignment
-somewhere-false : {w : List ℕ} {c : ℕ} → Standard w c → (n : ℕ) → n < c → (n ≡ 1 → ⊥) → (k : ℕ) × (k < 2 ^ 64) × (value w (bitAt k) n ≡ false)
-somewhere-false {w} S n below other =
-    let D = neither-decides S n n below below in
-    split (neither w n n) (λ t. let m = D .yes t in (m .0, m .1, m .2))
-    (λ t. absurd
-    (other
-    (one-node S n 1 below (omega (arith, S .two)) .1
-    (λ k small. split (value w (bitAt k) n) (λ e. e ∙ sym (value-1 w (bitAt k))) (λ e. absurd (D .no t (k, small, e, e)))))))
-
 pub entered-where : EnteredWhere
 unfolding EnteredWhere
 entered-where s b x d q =
     let n : isRefused (step (access (assert b x d)) s .answer) ≡ false = ap isRefused q in
     let X = assert-means 0 (omega arith) s b x d n in
-    let other = kept-or-entered s b x d n (λ e. absurd (true≢false (ap isKept (rw e at q)))) (λ t f e. eqb-false _ _ t) in
+    let other = kept-or-entered s b x d n (λ e. absurd (true≢false (ap isLeftOut (rw e at q)))) (λ t f e. eqb-false _ _ t) in
     let m = somewhere-false (X .standard) (assertFirst b x d s .answer .keep) (X .post .keep .below) other in
     let K = assert-means (m .0) (m .1) s b x d n .post .keep in
     (m .0, m .1, sym (K .is (asserts s b x d n .0) (bitAt (m .0)) (near-self (bitAt (m .0)))) ∙ m .2)

@@ -23,7 +23,7 @@ use Rattle.model.proofs.MeansLaws.{Means, means-as, near-self, one-mean
 use Rattle.model.proofs.HalfLaws.{halfOf, half-X, half-even, half-odd}
 use Rattle.model.proofs.PortLaws.{held-at}
 use Rattle.model.proofs.FactLaws.{fresh-told}
-use Rattle.model.proofs.StepLaws.{isKept, same-list, Holds, PortsMean, Follows, pair-is, step-follows, port-is}
+use Rattle.model.proofs.StepLaws.{isLeftOut, same-list, Holds, PortsMean, Follows, pair-is, step-follows, port-is}
 
 -- the list of calls goes on telling what the published run of its events does
 record Traced (σ : ℕ → Bool) (n w : ℕ) (cs : List Call) (s : State) (g : Held) : Type 0 where
@@ -60,7 +60,7 @@ traced a small n w (c ∷ cs) s h g en ew H N P E =
         e = event (bitAt a) s c (step c s .answer)
 
         R : Traced (bitAt a) (s .rec .n) (s .rec .w) cs (step c s .after) (heldAfter (s .rec .n) (s .rec .w) g (event (bitAt a) s c (step c s .answer)))
-        R = rest _ _ (F .same-n) (F .same-w) (F .holds) (F .long N) (F .ports N P) (same-list (s .rec .n) (s .rec .w) h g E (isKept (step c s .answer)) (event (bitAt a) s c (step c s .answer)) (F .accepted) (F .keeping))
+        R = rest _ _ (F .same-n) (F .same-w) (F .holds) (F .long N) (F .ports N P) (same-list (s .rec .n) (s .rec .w) h g E (isLeftOut (step c s .answer)) (event (bitAt a) s c (step c s .answer)) (F .accepted) (F .left-out))
 
         bits : (j i : ℕ) → i < s .rec .w → (b : Bool) → May (bitAt a) s (c ∷ cs) j i b ↔ RunMay (s .rec .n) (s .rec .w) g (events (bitAt a) s (c ∷ cs)) j i b
         bits zero i l b =

@@ -181,15 +181,15 @@ module _ (r : Record) (w : List ℕ) where
             rw (le-leb _ _ (is-fits r l (r .entries) (L .within) (L .most)), is-every (wordUser l) (r .entries * size r) 0 (λ k a b. names (getD l k 0) .so (L .words k (omega arith))), names (r .asserted) .so (L .asserted), names (r .checked) .so (L .checked));
       }
 
-  pub row8-tells : (k : ℕ) (l : List ℕ) → Tells (spaceFor r w k l) (Space r w k l)
-  row8-tells k l =
+  pub space-tells : (k : ℕ) (l : List ℕ) → Tells (spaceFor r w k l) (Space r w k l)
+  space-tells k l =
       record {
         is = λ e. let F = fits-is r l (r .entries + k) (leb-true (r .entries + k) (listCapacity r l) e) in record { within = F .0; most = F .1 };
         so = λ S. le-leb (r .entries + k) (listCapacity r l) (is-fits r l (r .entries + k) (S .within) (S .most));
       }
 
-  pub space-room : (l : List ℕ) → Space r w 1 l → r .entries < listCapacity r l
-  space-room l S = omega (arith, leb-true (r .entries + 1) (listCapacity r l) (row8-tells 1 l .so S))
+  pub space-room : (l : List ℕ) → spaceFor r w 1 l ≡ true → r .entries < listCapacity r l
+  space-room l e = omega (arith, leb-true (r .entries + 1) (listCapacity r l) e)
 
   pub users-tell : (ws : List ℕ) (k : ℕ) → length ws ≡ k → Tells (users r w ws) (AllName r w ws k)
   users-tell ws k len = rw len (each (λ i. isUser w (r .count) (getD ws i 0)) (λ i. Names r w (getD ws i 0)) k (λ i l. names (getD ws i 0)))
@@ -236,7 +236,7 @@ module _ (r : Record) (w : List ℕ) where
             λ N. (
               refl,
               three (pairs-tell S c 1 (N .0)) (pairs-tell S a (r .n) (N .1)) (pairs-tell S d (r .w) (N .2)),
-              λ Q. (refl, row8-tells 1 l, λ Z. tt),
+              λ Q. tt,
             ),
           ),
         ),
@@ -355,13 +355,12 @@ module _ (s : State) where
       let (three, rest) = rest in
       let (four, rest) = rest in
       let (five, rest) = rest in
-      let (six, rest) = rest in
+      let six = rest .0 in
       record {
         memory = record { range = one; standard = two; listed = three };
         enable = record { long = four .0; names = five .0; legal = six .0 };
         address = record { long = four .1; names = five .1; legal = six .1 };
         word = record { long = four .2; names = five .2; legal = six .2 };
-        space = rest .0;
       }
 
   pub read-facts : (p : ℕ) (e a out : List ℕ) → refusal (access (read p e a out)) s ≡ 0 → ReadFacts s p e a out

@@ -17,8 +17,8 @@ use Rattle.conditions.specs.Meaning.{Meaning, Builds}
 use Rattle.conditions.proofs.Promises.{from-1, extends-refl, extends-trans, standard-is, is-standard, terminals-standard, clear-standard, clear-below, ite-builds, variable-builds, is-user}
 use Rattle.model.specs.Record.{listCapacity, heldWord, freshPorts}
 use Rattle.model.specs.Access.{Write, Read, Check}
-use Rattle.model.specs.Rows.{Row, firstRow, users, row1, row8, writeRows, readRows, assertRows, checkRows, evaluateRows, variableRows, iteRows, portsRow}
-use Rattle.model.specs.Step.{State, withWords, write, read, assert, check, evaluate, variable, ite, Call, access, nodeCall, Given, place, filled, entered, kept, accepted, node, Answer, refused, done, isRefused, Filling, fills, fillsNone, filling, Result, refusal, turnedDown, Finish, full, short, gives, closed, unlessFull, begin, grown, withEntry, withAssertCondition, assertFirst, enter, finishAccess, finishNode, finish, turnedDownBy, step, run, fresh, freshRows, freshUnless, freshRecord, withHeld}
+use Rattle.model.specs.Rows.{Row, firstRow, users, row1, spaceFor, writeRows, readRows, assertRows, checkRows, evaluateRows, variableRows, iteRows, portsRow}
+use Rattle.model.specs.Step.{State, withWords, write, read, assert, check, evaluate, variable, ite, Call, access, nodeCall, Given, place, idle, filled, entered, kept, accepted, node, Answer, refused, done, isRefused, Filling, fills, fillsNone, filling, Result, refusal, turnedDown, Finish, full, short, gives, closed, unlessFull, begin, grown, withEntry, withAssertCondition, assertFirst, enter, isIdle, finishWrite, finishAccess, finishNode, finish, turnedDownBy, step, run, fresh, freshRows, freshUnless, freshRecord, withHeld, writeBuilt}
 use Rattle.model.specs.Claims.{pairs}
 use Rattle.model.specs.Frames.{clears, wordsAfter, RefusalLeaves, RefusalNumber, Extended, SuccessLeaves, Valid, StaysValid, NoRow123, FreshLeaves, FreshValid, FreshNoRow123, writeOrAssert, acceptedWrites, CountAtMost, numbers, portsAfter, PortsLeft, PortsValid, PortsStayValid, freshState}
 use Rattle.model.proofs.MeansLaws.{Means, user-means}
@@ -42,17 +42,17 @@ row-number p (t ∷ ts) q k e = let z = and-both (p (t .0) || t .1) (among p ts)
     go false n e h f = ap p (sym e) ∙ sym (or-false (p n)) ∙ h
 
 -- a row's number is one of the table's, and its refusal does not clear
-abbrev pub plain : Call → ℕ → Bool
-plain c k = numbers k && not (clears c k)
+abbrev pub plain : ℕ → Bool
+plain k = numbers k && not (clears k)
 
-pub rows-plain : (c : Call) (s : State) (k : ℕ) → refusal c s ≡ suc k → plain c (suc k) ≡ true
-rows-plain (access (write c a d)) s = row-number (plain (access (write c a d))) (writeRows (s .rec) (s .words) (s .list) c a d) refl
-rows-plain (access (read p e a out)) s = row-number (plain (access (read p e a out))) (readRows (s .rec) (s .words) (s .list) (s .ports) p e a out) refl
-rows-plain (access (assert b a d)) s = row-number (plain (access (assert b a d))) (assertRows (s .rec) (s .words) (s .list) b a d) refl
-rows-plain (access (check b a d)) s = row-number (plain (access (check b a d))) (checkRows (s .rec) (s .words) (s .list) b a d) refl
-rows-plain (nodeCall (evaluate f φ)) s = row-number (plain (nodeCall (evaluate f φ))) (evaluateRows (s .rec) (s .words) f) refl
-rows-plain (nodeCall (variable v)) s = row-number (plain (nodeCall (variable v))) (variableRows (s .rec) (s .words) v) refl
-rows-plain (nodeCall (ite f g h)) s = row-number (plain (nodeCall (ite f g h))) (iteRows (s .rec) (s .words) f g h) refl
+pub rows-plain : (c : Call) (s : State) (k : ℕ) → refusal c s ≡ suc k → plain (suc k) ≡ true
+rows-plain (access (write c a d)) s = row-number plain (writeRows (s .rec) (s .words) (s .list) c a d) refl
+rows-plain (access (read p e a out)) s = row-number plain (readRows (s .rec) (s .words) (s .list) (s .ports) p e a out) refl
+rows-plain (access (assert b a d)) s = row-number plain (assertRows (s .rec) (s .words) (s .list) b a d) refl
+rows-plain (access (check b a d)) s = row-number plain (checkRows (s .rec) (s .words) (s .list) b a d) refl
+rows-plain (nodeCall (evaluate f φ)) s = row-number plain (evaluateRows (s .rec) (s .words) f) refl
+rows-plain (nodeCall (variable v)) s = row-number plain (variableRows (s .rec) (s .words) v) refl
+rows-plain (nodeCall (ite f g h)) s = row-number plain (iteRows (s .rec) (s .words) f g h) refl
 
 -- and in a valid state it is 4 or more
 rows-late : (c : Call) (s : State) → Valid s → PortsValid s → (k : ℕ) → refusal c s ≡ suc k → leb 4 (suc k) ≡ true
@@ -65,17 +65,17 @@ rows-late (nodeCall (variable v)) s H P = row-number (leb 4) (variableRows (s .r
 rows-late (nodeCall (ite f g h)) s H P = row-number (leb 4) (iteRows (s .rec) (s .words) f g h) (rw (H .one, H .two))
 
 -- what a refusal leaves
-abbrev left : Call → State → ℕ → State
-left c s k = withWords s (wordsAfter (clears c k) s)
+abbrev left : State → ℕ → State
+left s k = withWords s (wordsAfter (clears k) s)
 
-record Refuses (c : Call) (s t : State) (k : ℕ) : Type 0 where
-  leaves : t ≡ left c s k
+record Refuses (s t : State) (k : ℕ) : Type 0 where
+  leaves : t ≡ left s k
   number : numbers k ≡ true
   late : Valid s → PortsValid s → 4 ≤ k
 
 -- what holds of a call's answer and of the state that it leaves
 record Leaves (c : Call) (s : State) (x : Result) : Type 0 where
-  refuses : (k : ℕ) → x .answer ≡ refused k → Refuses c s (x .after) k
+  refuses : (k : ℕ) → x .answer ≡ refused k → Refuses s (x .after) k
   extended : isRefused (x .answer) ≡ false → Extended s (x .after)
   valid : Valid s → Valid (x .after)
   ports : x .after .ports ≡ portsAfter c (x .answer) (s .ports)
@@ -115,21 +115,21 @@ module _ (c : Call) (s : State) where
       ports-stay s (clearOf (s .words) (s .rec .count)) (s .rec .count) (s .rec .asserted) (s .rec .checked) (user-stays (s .rec .count) E (omega arith)) P
   left-ports false P = P
 
-  refused-leaves : (k : ℕ) → numbers k ≡ true → (Valid s → PortsValid s → 4 ≤ k) → Leaves c s (record { answer = refused k; after = left c s k })
+  refused-leaves : (k : ℕ) → numbers k ≡ true → (Valid s → PortsValid s → 4 ≤ k) → Leaves c s (record { answer = refused k; after = left s k })
   refused-leaves k m f =
       record {
         refuses = λ j e. let z : k ≡ j = cc in rw (← z) (record { leaves = refl; number = m; late = f });
         extended = λ e. absurd (true≢false e);
-        valid = left-valid (clears c k);
+        valid = left-valid (clears k);
         ports = refused-ports c k (s .ports);
-        ports-valid = λ H P. left-ports (clears c k) P;
+        ports-valid = λ H P. left-ports (clears k) P;
         entries = omega arith;
       }
 
   turned-leaves : (k : ℕ) → refusal c s ≡ suc k → Leaves c s (turnedDown (suc k) s)
   turned-leaves k e =
       let p = and-both _ _ (rows-plain c s k e) in
-      let z : clears c (suc k) ≡ false = not-true _ (p .1) in
+      let z : clears (suc k) ≡ false = not-true _ (p .1) in
       rw z at (refused-leaves (suc k) (p .0) (λ H P. leb-true _ _ (rows-late c s H P k e)))
 
   nine-leaves : {A : Type 0} (x : Outcome A) (k : A → List ℕ → ℕ → Finish) → (x .store .full ≡ false → Leaves c s (closed s (k (x .answer) (x .words) (x .store .count)))) → Leaves c s (closed s (unlessFull x k))
@@ -169,20 +169,28 @@ module _ (c : Call) (s : State) where
       nine-leaves x (λ a w n. gives (k a) (grown s w n))
       (λ e. conditions-leave (k (x .answer)) (still (x .answer)) (x .words) (x .store .count) (X .extends) (X .standard) (s .rec .asserted) (s .rec .checked) (user-grows (X .extends) (s .rec .asserted)) (user-grows (X .extends) (s .rec .checked)))
 
--- 8 in an assert
-short-leaves : (b : ℕ) (a d : List ℕ) (s : State) → Leaves (access (assert b a d)) s (closed s short)
-unfolding closed
-short-leaves b a d s = refused-leaves (access (assert b a d)) s 8 refl (λ H P. omega arith)
+  -- 8, where an entry is needed
+  short-leaves : Leaves c s (closed s short)
+  unfolding closed
+  short-leaves = refused-leaves 8 refl (λ H P. omega arith)
+
+  -- what answers, and leaves the state as it was
+  same-leaves : (g : Given) → s .ports ≡ portsAfter c (done g) (s .ports) → Leaves c s (closed s (gives g s))
+  same-leaves g still =
+      done-leaves g s (conditions-extended s (s .words) (s .rec .count) (s .rec .asserted) (s .rec .checked) (extends-refl (s .words) (s .rec .count))) (λ H. H) still (λ H P. P) (omega arith)
 
 -- a call that no row refuses
 finish-leaves : (c : Call) (s : State) → refusal c s ≡ 0 → Leaves c s (closed s (finish c s))
-unfolding finishAccess finishNode enter
+unfolding finishAccess finishWrite finishNode enter
 finish-leaves (access (write c a d)) s e =
     let F = write-facts s c a d e in
     let r = s .rec in
-    entry-leaves (access (write c a d)) s _ refl (s .words) (r .count) (extends-refl (s .words) (r .count)) (F .memory .standard) refl (r .asserted) (λ u. u)
+    split (isIdle c) (λ i. rw i (same-leaves (access (write c a d)) s idle refl))
+    (λ i. split (spaceFor r (s .words) 1 (s .list))
+    (λ room. rw (i, room) (entry-leaves (access (write c a d)) s _ refl (s .words) (r .count) (extends-refl (s .words) (r .count)) (F .memory .standard) refl (r .asserted) (λ u. u)
     (getD c 0 0) (getD c 1 0) (names r (s .words) _ .so (F .enable .names 0 (omega arith))) (names r (s .words) _ .so (F .enable .names 1 (omega arith))) a d (F .address .long) (F .word .long)
-    (users-tell r (s .words) a (2 * r .n) (F .address .long) .so (F .address .names)) (users-tell r (s .words) d (2 * r .w) (F .word .long) .so (F .word .names)) (space-room r (s .words) (s .list) (F .space))
+    (users-tell r (s .words) a (2 * r .n) (F .address .long) .so (F .address .names)) (users-tell r (s .words) d (2 * r .w) (F .word .long) .so (F .word .names)) (space-room r (s .words) (s .list) room)))
+    (λ room. rw (i, room) (nine-leaves (access (write c a d)) s (writeBuilt c a s) _ (λ f. short-leaves (access (write c a d)) s))))
 finish-leaves (access (read p en a out)) s e =
     let F = read-facts s p en a out e in
     let X = read-program σ s p en a out F in
@@ -208,18 +216,17 @@ finish-leaves (access (assert b a d)) s e =
     nine-leaves c s x (enter s b a d)
     (λ f. split (eqb (x .answer .keep) 1)
     (λ t. rw t (conditions-leave c s kept refl (x .words) n (X .extends) (X .standard) v (r .checked) (λ u. means-user (X .post .condition)) (user-grows (X .extends) (r .checked))))
-    (λ t. split (row8 r (s .words) (s .list))
+    (λ t. split (spaceFor r (s .words) 1 (s .list))
     (λ room. rw (t, room) (entry-leaves c s entered refl (x .words) n (X .extends) (X .standard) refl v (λ u. means-user (X .post .condition)) b (x .answer .notB) (user-grows (X .extends) b (names r (s .words) b .so (K .control))) (means-user (X .post .notB))
-    a d (K .address .long) (K .word .long) (users-tell r (s .words) a (2 * r .n) (K .address .long) .so (K .address .names)) (users-tell r (s .words) d (2 * r .w) (K .word .long) .so (K .word .names)) (omega (arith, leb-true (r .entries + 1) (listCapacity r (s .list)) room))))
-    (λ room. rw (t, room) (short-leaves b a d s))))
+    a d (K .address .long) (K .word .long) (users-tell r (s .words) a (2 * r .n) (K .address .long) .so (K .address .names)) (users-tell r (s .words) d (2 * r .w) (K .word .long) .so (K .word .names)) (space-room r (s .words) (s .list) room)))
+    (λ room. rw (t, room) (short-leaves c s))))
 finish-leaves (access (check b a d)) s e =
     let X = check-program σ s b a d (check-facts s b a d e) in
     let r = s .rec in
     let x = Check r (s .list) b a d (s .words) (begin r) in
     nine-leaves (access (check b a d)) s x _
     (λ f. conditions-leave (access (check b a d)) s accepted refl (x .words) (x .store .count) (X .extends) (X .standard) (r .asserted) (x .answer) (user-grows (X .extends) (r .asserted)) (λ u. means-user (X .post)))
-finish-leaves (nodeCall (evaluate f φ)) s e =
-    done-leaves (nodeCall (evaluate f φ)) s _ s (conditions-extended s (s .words) (s .rec .count) (s .rec .asserted) (s .rec .checked) (extends-refl (s .words) (s .rec .count))) (λ H. H) refl (λ H P. P) (omega arith)
+finish-leaves (nodeCall (evaluate f φ)) s e = same-leaves (nodeCall (evaluate f φ)) s _ refl
 finish-leaves (nodeCall (variable v)) s e =
     let F = variable-facts s v e in
     grown-leaves (nodeCall (variable v)) s (variable-builds {s = begin (s .rec)} {v = v} (F .standard) (omega (arith, F .named .1))) node (λ a. refl)

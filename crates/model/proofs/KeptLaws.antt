@@ -1,8 +1,8 @@
--- Entering an assert that is kept changes no cell, so that a memory which leaves such asserts out tells the same as one in which each is entered.
+-- Entering an idle write, or an assert that is kept, changes no cell, so that a memory which leaves them out tells the same as one in which each is entered.
 use mathlib.Core.Path.{_≡_, refl, sym, ap, _∙_, subst}
-use mathlib.Core.Bool.{Bool, true, false, _&&_, _||_, not, cond}
+use mathlib.Core.Bool.{Bool, true, false, _&&_, _||_, not, cond, true≢false}
 use mathlib.Core.List.{List, [], _∷_, _++_}
-use Prim.Native.Nat.{ℕ, zero, suc, _<_}
+use Prim.Native.Nat.{ℕ, _<_}
 use lib.Dec.{T, eqb}
 use lib.ListN.{length}
 use Rattle.model.specs.Pairs.{Pair, X, admit, admits, unique, at}
@@ -32,10 +32,18 @@ over-off : (m u : Bool) (e r : Pair) → cond (m && (false && u)) e (cond (m && 
 over-off true u e r = refl
 over-off false u e r = refl
 
+-- entering a write whose enable is 0 changes no cell
+pub idle-same : (w : ℕ) (es : List Entry) (c : Pair) (a d : List Pair) → c .h ≡ false → SameCells w (es ++ (entry c a d ∷ [])) es
+idle-same w es c a d e = record { cells = λ x i l. scan-snoc es (entry c a d) x i X ∙ go (c .h) e x i }
+  where
+    go : (h : Bool) → h ≡ false → (x : List Bool) (i : ℕ) → cond (admits a x && (h && not (c .l) && unique a)) (at d i) (cond (admits a x && (h && c .l || h && not (c .l) && not (unique a))) (union (at d i) (cell es x i)) (cell es x i)) ≡ cell es x i
+    go false e x i = over-off (admits a x) (unique a) (at d i) (cell es x i)
+    go true e x i = absurd (true≢false e)
+
 -- entering an assert that is kept changes no cell
 pub kept-same : (n w : ℕ) (es : List Entry) (b : Bool) (a d : List Pair) → length a ≡ n → T (not b || unique a) → T (keeps n w es b a d) →
     SameCells w (es ++ (entry (control b) a d ∷ [])) es
-kept-same n w es false a d na u k = record { cells = λ x i h. scan-snoc es (entry (control false) a d) x i X ∙ over-off (admits a x) (unique a) (at d i) (cell es x i) }
+kept-same n w es false a d na u k = idle-same w es (control false) a d refl
 kept-same n w es true a d na u k = record { cells = λ x i h. scan-snoc es (entry (control true) a d) x i X ∙ go x i h (admits a x) refl (unique a) u }
   where
     A : T (inside w (at d) (look n es a))
@@ -102,7 +110,12 @@ same-after n w s t S (asserts b a d) = record { entries = same-add w (s .entries
 same-after n w s t S (checks b a d) = record { entries = S .entries; ports = S .ports; condition = same-check n w s t S b a d }
 same-after n w s t S nothing = S
 
--- where the left leaves out an assert that it keeps
+-- where the left leaves out an idle write,
+pub same-idle : (n w : ℕ) (s t : Held) → SameHeld w s t → (c : Pair) (a d : List Pair) → c .h ≡ false → SameHeld w s (heldAfter n w t (writes c a d))
+same-idle n w s t S c a d e =
+    record { entries = record { cells = λ x i h. S .entries .cells x i h ∙ sym (idle-same w (t .entries) c a d e .cells x i h) }; ports = S .ports; condition = S .condition }
+
+-- and an assert that it keeps
 pub same-kept : (n w : ℕ) (s t : Held) → SameHeld w s t → (b : Bool) (a d : List Pair) → Accepted n w (asserts b a d) → T (keeps n w (s .entries) b a d) →
     SameHeld w s (heldAfter n w t (asserts b a d))
 same-kept n w s t S b a d q k =

@@ -7,12 +7,14 @@ pub mod HalfLaws
 pub mod AccessLaws
 pub mod ListLaws
 pub mod PortLaws
+pub mod TerminalLaws
 pub mod FactLaws
 pub mod RowLaws
 pub mod StepLaws
 pub mod EntryLaws
 pub mod ProgramLaws
 pub mod Demand2
+pub mod IdleLaws
 pub mod ValidLaws
 pub mod FrameLaws
 pub mod Demand3

@@ -16,8 +16,8 @@ use Rattle.conditions.specs.Meaning.{Within, longer, Fills}
 use Rattle.conditions.proofs.Promises.{standard-within, pure-fills, next-fills, each-fills, variable-fills, ite-fills, any-fills, value-longer}
 use Rattle.model.specs.Record.{Record, hAt, lAt, entryAt, addressOf, dataOf, heldWord}
 use Rattle.model.specs.Access.{uniqueBit, Unique, Certain, Write, narrowBit, Narrow, halfStep, EachHalf, mergeHalf, entryStep, settleHalf, Look, Read, insideHalf, Inside, Check, AssertBuilt, Assert, holdHalf}
-use Rattle.model.specs.Rows.{row8}
-use Rattle.model.specs.Step.{State, write, read, assert, check, evaluate, variable, ite, Call, access, nodeCall, Given, valued, kept, entered, Answer, isRefused, refused, refusal, Finish, full, short, gives, closed, unlessFull, begin, grown, withEntry, withCheckCondition, assertFirst, enter, finishAccess, finishNode, finish, turnedDownBy, step, withHeld}
+use Rattle.model.specs.Rows.{spaceFor}
+use Rattle.model.specs.Step.{State, write, read, assert, check, evaluate, variable, ite, Call, access, nodeCall, Given, valued, kept, entered, Answer, isRefused, refused, refusal, Finish, full, short, gives, closed, unlessFull, begin, grown, withEntry, withCheckCondition, assertFirst, enter, isIdle, finishWrite, finishAccess, finishNode, finish, turnedDownBy, step, withHeld, writeBuilt}
 use Rattle.model.specs.Frames.{lateRow, NineAtCapacity}
 use Rattle.model.specs.Table.{AllHold, facts, withMore, InMore, NineExactly}
 use Rattle.model.proofs.FactLaws.{call-standard, call-told}
@@ -115,8 +115,11 @@ module _ (s : State) (S : Standard (s .words) (s .rec .count)) where
   alone-met F g t h = full-met _ _ (from F) (λ e. rw (h _ _ _) (from F .most))
 
   finish-met : (c : Call) → Met (finish c s)
-  unfolding finishAccess finishNode enter
-  finish-met (access (write c a d)) = alone-met (write-fills (s .rec .n) (getD c 0 0) (getD c 1 0) a) _ _ (λ a w c. refl)
+  unfolding finishAccess finishWrite finishNode enter
+  finish-met (access (write c a d)) =
+      let X = from (write-fills (s .rec .n) (getD c 0 0) (getD c 1 0) a) in
+      split (isIdle c) (λ i. rw i (standard-within S .most))
+      (λ i. rw i (full-met (writeBuilt c a s) _ X (λ e. split (spaceFor (s .rec) (s .words) 1 (s .list)) (λ r. rw r (X .most)) (λ r. rw r tt))))
   finish-met (access (read p e a out)) = alone-met (read-fills (s .rec) (s .list) (heldWord (s .rec) (s .ports) p) (getD e 0 0) (getD e 1 0) a) _ _ (λ a w c. refl)
   finish-met (access (check b a d)) = alone-met (check-fills (s .rec) (s .list) b a d) _ _ (λ a w c. refl)
   finish-met (access (assert b a d)) =
@@ -125,7 +128,7 @@ module _ (s : State) (S : Standard (s .words) (s .rec .count)) where
       let Y = write-fills (s .rec .n) b (x .answer .notB) a .within capacity (x .words) (record { count = x .store .count; full = false }) (record { capacity = X .capacity; most = X .most; at-capacity = λ e. absurd (false≢true e) }) in
       full-met x _ X
       (λ f. split (eqb (x .answer .keep) 1) (λ t. rw t (X .most))
-      (λ t. split (row8 (s .rec) (s .words) (s .list))
+      (λ t. split (spaceFor (s .rec) (s .words) 1 (s .list))
       (λ r. rw (t, r) (full-met (Write (s .rec .n) b (x .answer .notB) a (x .words) (record { count = x .store .count; full = false })) _ Y (λ e. Y .most)))
       (λ r. rw (t, r) tt)))
   finish-met (nodeCall (evaluate f a)) = standard-within S .most
@@ -145,7 +148,7 @@ nine-at-capacity c s = go (refusal c s) refl
     go zero r e = let S = call-standard c s r in at-nine s S (finish c s) (finish-met s S c) (nine-full s (finish c s) e)
     go (suc k) r e =
         let z : suc k ≡ 9 = cc in
-        let p : plain c 9 ≡ true = rw z at (rows-plain c s k r) in
+        let p : plain 9 ≡ true = rw z at (rows-plain c s k r) in
         absurd (false≢true p)
 
 -- the same call with k more node words lent
@@ -222,20 +225,25 @@ module _ (k : ℕ) (s : State) where
       late : (q : AssertBuilt) (w : List ℕ) (c : ℕ) → capacityOf (s .words) < c → Past (enter more b a d q w c)
       late q w c l =
           split (eqb (q .keep) 1) (λ t. rw t l)
-          (λ t. split (row8 (s .rec) (s .words) (s .list))
+          (λ t. split (spaceFor (s .rec) (s .words) 1 (s .list))
           (λ r. rw (t, r) (past-gives (Write (s .rec .n) b (q .notB) a w (record { count = c; full = false })) _ _ (λ a w c. refl) (omega (arith, l, W q .grows w (record { count = c; full = false })))))
           (λ r. rw (t, r) tt))
 
       on : x .store .full ≡ false → Beside (enter s b a d (x .answer) (x .words) (x .store .count)) (enter more b a d (x .answer) (longer k (x .words)) (x .store .count))
       on f =
           split (eqb (x .answer .keep) 1) (λ t. rw t refl)
-          (λ t. split (row8 (s .rec) (s .words) (s .list))
+          (λ t. split (spaceFor (s .rec) (s .words) 1 (s .list))
           (λ r. rw (t, r) (program-beside (W (x .answer)) (x .words) (record { count = x .store .count; full = false }) (ap (λ n. min (n / 3) 16384) (F .long (s .words) (begin (s .rec)))) _ _ (λ a w c l. l) (λ e. refl)))
           (λ r. rw (t, r) refl))
 
   finish-beside : (c : Call) → Beside (finish c s) (finish c more)
-  unfolding finishAccess finishNode
-  finish-beside (access (write c a d)) = alone-beside (write-fills (s .rec .n) (getD c 0 0) (getD c 1 0) a) _ (λ s m w c. withEntry (grown s w c) m a d) (λ a w c. refl) (λ a w c. refl)
+  unfolding finishAccess finishWrite finishNode
+  finish-beside (access (write c a d)) =
+      let F = write-fills (s .rec .n) (getD c 0 0) (getD c 1 0) a in
+      split (isIdle c) (λ i. rw i refl)
+      (λ i. split (spaceFor (s .rec) (s .words) 1 (s .list))
+      (λ r. rw (i, r) (alone-beside F _ (λ s m w c. withEntry (grown s w c) m a d) (λ a w c. refl) (λ a w c. refl)))
+      (λ r. rw (i, r) (program-beside F (s .words) (begin (s .rec)) refl _ _ (λ a w c l. tt) (λ e. refl))))
   finish-beside (access (read p e a out)) = alone-beside (read-fills (s .rec) (s .list) (heldWord (s .rec) (s .ports) p) (getD e 0 0) (getD e 1 0) a) _ (λ s r w c. withHeld (grown s w c) p r) (λ a w c. refl) (λ a w c. refl)
   finish-beside (access (check b a d)) = alone-beside (check-fills (s .rec) (s .list) b a d) _ (λ s v w c. withCheckCondition (grown s w c) v) (λ a w c. refl) (λ a w c. refl)
   finish-beside (access (assert b a d)) = assert-beside b a d

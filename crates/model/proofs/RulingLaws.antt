@@ -10,14 +10,14 @@ use Rattle.conditions.specs.Computing.{computing}
 use Rattle.model.specs.Record.{listCapacity, appended, replaced}
 use Rattle.model.specs.Access.{uniqueBit, Unique, Certain, Write, narrowBit, Narrow, halfStep, EachHalf, mergeHalf, entryStep, settleHalf, Look, holdHalf, Read, insideHalf, Inside, Check}
 use Rattle.model.specs.Rows.{row1, row3, portsRow}
-use Rattle.model.specs.Step.{State, Call, Given, place, filled, entered, kept, accepted, valued, node, Answer, refused, done, isRefused, closed, unlessFull, finishAccess, step, run, fresh}
-use Rattle.model.specs.Rulings.{Expected, reading, leaving, Ruling, rulings, start, result, Taken, Gives, Says, taken, sameWords, fits, answers, ruled, allRuled}
+use Rattle.model.specs.Step.{State, Call, Given, place, idle, filled, entered, kept, accepted, valued, node, Answer, refused, done, isRefused, closed, unlessFull, finishWrite, finishAccess, step, run, fresh}
+use Rattle.model.specs.Rulings.{Expected, reading, leaving, idling, Ruling, rulings, start, result, Taken, Gives, Says, taken, sameWords, fits, answers, ruled, allRuled}
 
 pub rulings-hold : allRuled rulings ≡ true
 unfolding
     computing
     listCapacity appended replaced uniqueBit Unique Certain Write narrowBit Narrow halfStep EachHalf mergeHalf entryStep settleHalf Look holdHalf Read insideHalf Inside Check
-    row1 row3 portsRow closed unlessFull finishAccess step run fresh rulings start result taken ruled allRuled
+    row1 row3 portsRow closed unlessFull finishWrite finishAccess step run fresh rulings start result taken ruled allRuled
 rulings-hold = refl
 
 -- from a test that passes to what it says
@@ -31,12 +31,17 @@ words-same (x ∷ xs) (y ∷ ys) e =
 
 fits-is : (e : Expected) (g : Given) (c : ℕ) → fits e g c ≡ true → Gives e (done g) c
 fits-is e (place k) c p = absurd (false≢true p)
+fits-is (reading ws) idle c p = absurd (false≢true p)
+fits-is (leaving k) idle c p = absurd (false≢true p)
+fits-is idling idle c p = refl
 fits-is (reading ws) (filled r) c p = ap (λ (ws : List ℕ). done (filled ws)) (words-same r ws p)
 fits-is (leaving k) (filled r) c p = absurd (false≢true p)
+fits-is idling (filled r) c p = absurd (false≢true p)
 fits-is e entered c p = absurd (false≢true p)
 fits-is e kept c p = absurd (false≢true p)
 fits-is (reading ws) accepted c p = absurd (false≢true p)
 fits-is (leaving k) accepted c p = (refl, eqb-true c k p)
+fits-is idling accepted c p = absurd (false≢true p)
 fits-is e (valued b) c p = absurd (false≢true p)
 fits-is e (node n) c p = absurd (false≢true p)
 

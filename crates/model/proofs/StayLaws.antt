@@ -8,8 +8,8 @@ use lib.Dec.{eqb}
 use borrow.Author.Tests.{eq-eqb}
 use Rattle.nodes.proofs.BoolLaws.{split}
 use Rattle.conditions.specs.Build.{Outcome}
-use Rattle.model.specs.Rows.{row8}
-use Rattle.model.specs.Step.{State, write, read, assert, check, evaluate, variable, ite, Call, access, nodeCall, Answer, refused, done, isRefused, Result, refusal, Finish, full, short, gives, closed, unlessFull, assertFirst, enter, finishAccess, finishNode, finish, turnedDownBy, step}
+use Rattle.model.specs.Rows.{spaceFor}
+use Rattle.model.specs.Step.{State, write, read, assert, check, evaluate, variable, ite, Call, access, nodeCall, Answer, refused, done, isRefused, Result, refusal, Finish, full, short, gives, closed, unlessFull, assertFirst, enter, isIdle, finishWrite, finishAccess, finishNode, finish, turnedDownBy, step}
 use Rattle.model.specs.Frames.{isAssert, isCheck, lateRow, RefusedByRow, RowRefuses, ConditionsStay}
 
 -- what is closed is refused by its late row, and else not
@@ -48,8 +48,10 @@ unfolding unlessFull
 full-stays c s x f h = split (x .store .full) (λ t. rw t tt) (λ t. rw t h)
 
 finish-stays : (c : Call) (s : State) → FinishStays c s (finish c s)
-unfolding finishAccess finishNode enter
-finish-stays (access (write c a d)) s = full-stays (access (write c a d)) s _ _ (record { asserted = λ e. refl; checked = λ e. refl })
+unfolding finishAccess finishWrite finishNode enter
+finish-stays (access (write c a d)) s =
+    split (isIdle c) (λ i. rw i (record { asserted = λ e. refl; checked = λ e. refl }))
+    (λ i. rw i (full-stays (access (write c a d)) s _ _ (split (spaceFor (s .rec) (s .words) 1 (s .list)) (λ r. rw r (record { asserted = λ e. refl; checked = λ e. refl })) (λ r. rw r tt))))
 finish-stays (access (read p c a d)) s = full-stays (access (read p c a d)) s _ _ (record { asserted = λ e. refl; checked = λ e. refl })
 finish-stays (access (check c a d)) s = full-stays (access (check c a d)) s _ _ (record { asserted = λ e. refl; checked = λ e. absurd (true≢false e) })
 finish-stays (access (assert b a d)) s =
@@ -57,7 +59,7 @@ finish-stays (access (assert b a d)) s =
     let x = assertFirst b a d s in
     full-stays c s x (enter s b a d)
     (split (eqb (x .answer .keep) 1) (λ e. rw e (record { asserted = λ z. absurd (true≢false z); checked = λ z. refl }))
-    (λ e. split (row8 (s .rec) (s .words) (s .list)) (λ r. rw (e, r) (full-stays c s _ _ (record { asserted = λ z. absurd (true≢false z); checked = λ z. refl }))) (λ r. rw (e, r) tt)))
+    (λ e. split (spaceFor (s .rec) (s .words) 1 (s .list)) (λ r. rw (e, r) (full-stays c s _ _ (record { asserted = λ z. absurd (true≢false z); checked = λ z. refl }))) (λ r. rw (e, r) tt)))
 finish-stays (nodeCall (evaluate f a)) s = record { asserted = λ e. refl; checked = λ e. refl }
 finish-stays (nodeCall (variable v)) s = full-stays (nodeCall (variable v)) s _ _ (record { asserted = λ e. refl; checked = λ e. refl })
 finish-stays (nodeCall (ite f g h)) s = full-stays (nodeCall (ite f g h)) s _ _ (record { asserted = λ e. refl; checked = λ e. refl })

@@ -9,7 +9,7 @@ use native.Mathlib.Decide.{decLt}
 use lib.Dec.{T, eqb}
 use lib.ListN.{length, getD, length-append, List·getD-append}
 use lib.Seq.{getD-at}
-use borrow.Author.Tests.{eqb-true, eqb-false, leb-true}
+use borrow.Author.Tests.{eqb-true, eqb-false}
 use Rattle.nodes.proofs.BoolLaws.{split, and-both}
 use Rattle.conditions.specs.Stores.{Standard, clearOf}
 use Rattle.conditions.specs.declared.Store.{Store}
@@ -23,52 +23,55 @@ use Rattle.conditions.proofs.Promises.{clear-keep, stands-value, value-1}
 use Rattle.model.specs.Pairs.{Pair, legals, admit, unique, at}
 use Rattle.model.specs.Record.{Record, withCount, withEntries, withAsserted, withChecked, entryAt, appended, listCapacity, heldWord, replaced}
 use Rattle.model.specs.Access.{Marks, Write, Read, AssertBuilt, Assert, Check}
-use Rattle.model.specs.Rows.{row8}
-use Rattle.model.specs.Step.{State, write, read, assert, check, NodeCall, evaluate, variable, ite, Call, access, nodeCall, Given, place, filled, entered, kept, accepted, valued, node, Answer, refused, done, Result, refusal, turnedDown, cleared, Finish, full, short, gives, closed, unlessFull, begin, grown, withEntry, withHeld, withAssertCondition, withCheckCondition, assertFirst, enter, finishAccess, finishNode, finish, turnedDownBy, step}
+use Rattle.model.specs.Rows.{spaceFor}
+use Rattle.model.specs.Step.{State, write, read, assert, check, NodeCall, evaluate, variable, ite, Call, access, nodeCall, Given, place, idle, filled, entered, kept, accepted, valued, node, Answer, refused, done, Result, refusal, turnedDown, cleared, Finish, full, short, gives, closed, unlessFull, begin, grown, withEntry, withHeld, withAssertCondition, withCheckCondition, assertFirst, enter, isIdle, finishWrite, finishAccess, finishNode, finish, turnedDownBy, step}
 use Rattle.model.specs.Published.{Entry, entry, answer, checkHolds, assertHolds, control, keeps}
 use Rattle.model.specs.Array.{Event, writes, reads, asserts, checks, nothing}
 use Rattle.model.specs.Held.{Held, add, heldAfter, NowMay, Accepted}
 use Rattle.model.specs.Claims.{pairAt, pairs, event, BitMay}
 use Rattle.model.specs.Table.{ReadFacts, CheckFacts, AssertFacts}
 use Rattle.model.proofs.PairLaws.{eq→T}
-use Rattle.model.proofs.KeptLaws.{SameHeld, same-after, same-kept}
+use Rattle.model.proofs.KeptLaws.{SameHeld, same-after, same-idle, same-kept}
 use Rattle.model.proofs.MeansLaws.{Means, means-as, up, near-self, ite-means, variable-means}
 use Rattle.model.proofs.HalfLaws.{half-even, half-odd}
 use Rattle.model.proofs.AccessLaws.{Halves, EntryMeans, noEntry, EntriesMean, up-halves, up-entries, MarksMean, write-means, Word, read-means, check-means, AssertBuiltMean, assert-means}
 use Rattle.model.proofs.PortLaws.{held-at, replaced-length, replaced-in, replaced-other, half-at}
 use Rattle.model.proofs.ListLaws.{new-address, new-data, entry-old, entry-new}
+use Rattle.model.proofs.TerminalLaws.{idle-off}
 use Rattle.model.proofs.FactLaws.{space-room, write-facts, read-facts, check-facts, assert-facts, variable-facts, ite-facts}
 use Rattle.model.proofs.RowLaws.{length-pairs, name-means, names-halves, pair-legal, pairs-legal, pairs-unique}
 
-abbrev givesKept : Given → Bool
-givesKept (place k) = false
-givesKept (filled r) = false
-givesKept entered = false
-givesKept kept = true
-givesKept accepted = false
-givesKept (valued b) = false
-givesKept (node n) = false
+-- the list leaves out an idle write, and an assert that is kept
+abbrev givesNone : Given → Bool
+givesNone (place k) = false
+givesNone idle = true
+givesNone (filled r) = false
+givesNone entered = false
+givesNone kept = true
+givesNone accepted = false
+givesNone (valued b) = false
+givesNone (node n) = false
 
-abbrev pub isKept : Answer → Bool
-isKept (refused k) = false
-isKept (done g) = givesKept g
+abbrev pub isLeftOut : Answer → Bool
+isLeftOut (refused k) = false
+isLeftOut (done g) = givesNone g
 
--- what the list holds after a call: that of the published run, but for an assert that is kept
+-- what the list holds after a call: that of the published run, but for what it leaves out
 abbrev pub listAfter : ℕ → ℕ → Held → Bool → Event → Held
 listAfter n w h k e = cond k h (heldAfter n w h e)
 
--- an assert that may be kept
-abbrev pub KeepsEvent : ℕ → ℕ → Held → Event → Type 0
-KeepsEvent n w h (writes c a d) = ⊥
-KeepsEvent n w h (reads p e a) = ⊥
-KeepsEvent n w h (asserts b a d) = T (keeps n w (h .entries) b a d)
-KeepsEvent n w h (checks b a d) = ⊥
-KeepsEvent n w h nothing = ⊥
+-- a write that may be idle, and an assert that may be kept
+abbrev pub MayLeaveOut : ℕ → ℕ → Held → Event → Type 0
+MayLeaveOut n w h (writes c a d) = c .h ≡ false
+MayLeaveOut n w h (reads p e a) = ⊥
+MayLeaveOut n w h (asserts b a d) = T (keeps n w (h .entries) b a d)
+MayLeaveOut n w h (checks b a d) = ⊥
+MayLeaveOut n w h nothing = ⊥
 
--- a list that leaves out what it keeps goes on telling the same as the published run
-pub same-list : (n w : ℕ) (s t : Held) → SameHeld w s t → (k : Bool) (e : Event) → Accepted n w e → (k ≡ true → KeepsEvent n w s e) → SameHeld w (listAfter n w s k e) (heldAfter n w t e)
+-- a list that leaves these out goes on telling the same as the published run
+pub same-list : (n w : ℕ) (s t : Held) → SameHeld w s t → (k : Bool) (e : Event) → Accepted n w e → (k ≡ true → MayLeaveOut n w s e) → SameHeld w (listAfter n w s k e) (heldAfter n w t e)
 same-list n w s t S false e q f = same-after n w s t S e
-same-list n w s t S true (writes c a d) q f = absurd (f refl)
+same-list n w s t S true (writes c a d) q f = same-idle n w s t S c a d (f refl)
 same-list n w s t S true (reads p e a) q f = absurd (f refl)
 same-list n w s t S true (asserts b a d) q f = same-kept n w s t S b a d q (f refl)
 same-list n w s t S true (checks b a d) q f = absurd (f refl)
@@ -88,10 +91,10 @@ pub record Follows (σ : ℕ → Bool) (s : State) (h : Held) (c : Call) (x : Re
   pub same-n : x .after .rec .n ≡ s .rec .n
   pub same-w : x .after .rec .w ≡ s .rec .w
   pub accepted : Accepted (s .rec .n) (s .rec .w) (event σ s c (x .answer))
-  pub keeping : isKept (x .answer) ≡ true → KeepsEvent (s .rec .n) (s .rec .w) h (event σ s c (x .answer))
-  pub holds : Holds σ (x .after) (listAfter (s .rec .n) (s .rec .w) h (isKept (x .answer)) (event σ s c (x .answer)))
+  pub left-out : isLeftOut (x .answer) ≡ true → MayLeaveOut (s .rec .n) (s .rec .w) h (event σ s c (x .answer))
+  pub holds : Holds σ (x .after) (listAfter (s .rec .n) (s .rec .w) h (isLeftOut (x .answer)) (event σ s c (x .answer)))
   pub long : length (s .ports) ≡ 128 → length (x .after .ports) ≡ 128
-  pub ports : length (s .ports) ≡ 128 → PortsMean σ s (h .ports) → PortsMean σ (x .after) (listAfter (s .rec .n) (s .rec .w) h (isKept (x .answer)) (event σ s c (x .answer)) .ports)
+  pub ports : length (s .ports) ≡ 128 → PortsMean σ s (h .ports) → PortsMean σ (x .after) (listAfter (s .rec .n) (s .rec .w) h (isLeftOut (x .answer)) (event σ s c (x .answer)) .ports)
   pub bits : PortsMean σ s (h .ports) → (i : ℕ) → i < s .rec .w → (b : Bool) → BitMay σ (x .after .words) (x .answer) i b ↔ NowMay (s .rec .n) h (event σ s c (x .answer)) i b
 
 -- the meanings of entries do not turn on the record's other fields
@@ -129,7 +132,7 @@ free-store P s e p = subst P (λ i. record { count = s .count; full = e i }) p
 module _ (σ : ℕ → Bool) (s : State) (h : Held) (H : Holds σ s h) (c : Call) where
   -- a refusal that leaves everything
   turned-follows : (k : ℕ) → Follows σ s h c (turnedDown k s)
-  turned-follows k = record { same-n = refl; same-w = refl; accepted = tt; keeping = λ z. absurd (false≢true z); holds = H; long = λ n. n; ports = λ n P. P; bits = λ P i l b. (λ z. z, λ z. z) }
+  turned-follows k = record { same-n = refl; same-w = refl; accepted = tt; left-out = λ z. absurd (false≢true z); holds = H; long = λ n. n; ports = λ n P. P; bits = λ P i l b. (λ z. z, λ z. z) }
 
   module _ (S : Standard (s .words) (s .rec .count)) where
     clear-means : {u n : ℕ} {μ : (ℕ → Bool) → Bool} → Means σ u μ (s .words) (begin (s .rec)) n → Means σ u μ (clearOf (s .words) (s .rec .count)) (begin (s .rec)) n
@@ -147,7 +150,7 @@ module _ (σ : ℕ → Bool) (s : State) (h : Held) (H : Holds σ s h) (c : Call
           same-n = refl;
           same-w = refl;
           accepted = tt;
-          keeping = λ z. absurd (false≢true z);
+          left-out = λ z. absurd (false≢true z);
           holds = record {
             entries = record {
               count = H .entries .count;
@@ -224,7 +227,7 @@ module _ (k : ℕ) (small : k < 2 ^ 64) (s : State) (h : Held) (H : Holds (bitAt
   names-port {p} F = record { half = λ i l. means-as (name-means σ (s .rec) (s .words) (F .memory .standard) (rw (held-at (s .rec) (s .ports) p i l) (F .ports p (omega (arith, F .port)) i l))) (λ τ. half-at σ (s .words) (heldWord (s .rec) (s .ports) p) i) }
 
   write-follows : (c a d : List ℕ) → refusal (access (write c a d)) s ≡ 0 → Follows σ s h (access (write c a d)) (closed s (finish (access (write c a d)) s))
-  unfolding finishAccess closed listCapacity
+  unfolding finishAccess finishWrite closed listCapacity
   write-follows c a d e =
       let F = write-facts s c a d e in
       let S = F .memory .standard in
@@ -237,18 +240,23 @@ module _ (k : ℕ) (small : k < 2 ^ 64) (s : State) (h : Held) (H : Holds (bitAt
       let lq = length-pairs σ (s .words) a 0 (s .rec .n) in
       let X = write-means (s .rec .n) (getD c 0 0) (getD c 1 0) a p qs ds lq (s .words) (begin (s .rec)) S (C .half 0 (omega arith)) (C .half 1 (omega arith)) A in
       let x = Write (s .rec .n) (getD c 0 0) (getD c 1 0) a (s .words) (begin (s .rec)) in
-      nine-follows σ s h H (access (write c a d)) S x _
-      (λ e. record {
+      let legal : Accepted (s .rec .n) (s .rec .w) (writes p qs ds)
+      = (
+        pair-legal k small (s .rec) (s .words) c 1 (F .enable .legal) 0 (omega arith),
+        (pairs-legal k small (s .rec) (s .words) a (s .rec .n) (F .address .legal), lq),
+        (pairs-legal k small (s .rec) (s .words) d (s .rec .w) (F .word .legal), length-pairs σ (s .words) d 0 (s .rec .w)),
+      ) in
+      split (isIdle c)
+      (λ z. rw z (record { same-n = refl; same-w = refl; accepted = legal; left-out = λ y. idle-off c (s .words) σ z; holds = H; long = λ n. n; ports = λ n P. P; bits = λ P i l b. (λ y. y, λ y. y) }))
+      (λ z. rw z (nine-follows σ s h H (access (write c a d)) S x _
+      (λ e. split (spaceFor (s .rec) (s .words) 1 (s .list))
+      (λ u. rw u (record {
         same-n = refl;
         same-w = refl;
-        accepted = (
-          pair-legal k small (s .rec) (s .words) c 1 (F .enable .legal) 0 (omega arith),
-          (pairs-legal k small (s .rec) (s .words) a (s .rec .n) (F .address .legal), lq),
-          (pairs-legal k small (s .rec) (s .words) d (s .rec .w) (F .word .legal), length-pairs σ (s .words) d 0 (s .rec .w)),
-        );
-        keeping = λ z. absurd (false≢true z);
+        accepted = legal;
+        left-out = λ z. absurd (false≢true z);
         holds = record {
-          entries = entries-more (grown s (x .words) (x .store .count) .rec) (s .list) (x .answer) a d (entry p qs ds) (F .address .long) (F .word .long) (space-room (s .rec) (s .words) (s .list) (F .space)) (grown-holds σ s h H (access (write c a d)) S X e .entries)
+          entries = entries-more (grown s (x .words) (x .store .count) .rec) (s .list) (x .answer) a d (entry p qs ds) (F .address .long) (F .word .long) (space-room (s .rec) (s .words) (s .list) u) (grown-holds σ s h H (access (write c a d)) S X e .entries)
               (free-store (λ (t : Store). MarksMean σ (entry p qs ds) (x .words) t (x .answer)) (x .store) e (X .post))
               (free-store (λ (t : Store). Halves σ 8 (2 * s .rec .n) (λ τ. at qs) (x .words) t a) (x .store) e (up-halves S X A))
               (free-store (λ (t : Store). Halves σ 8 (2 * s .rec .w) (λ τ. at ds) (x .words) t d) (x .store) e (up-halves S X D))
@@ -258,7 +266,8 @@ module _ (k : ℕ) (small : k < 2 ^ 64) (s : State) (h : Held) (H : Holds (bitAt
         long = λ n. n;
         ports = λ n P. let Q = grown-ports σ s h H (access (write c a d)) S X e P in record { words = Q .words };
         bits = λ P i l b. (λ z. z, λ z. z);
-      })
+      }))
+      (λ u. rw u (cleared-follows σ s h H (access (write c a d)) S 8)))))
 
   read-follows : (p : ℕ) (en a out : List ℕ) → refusal (access (read p en a out)) s ≡ 0 → Follows σ s h (access (read p en a out)) (closed s (finish (access (read p en a out)) s))
   unfolding finishAccess closed
@@ -280,7 +289,7 @@ module _ (k : ℕ) (small : k < 2 ^ 64) (s : State) (h : Held) (H : Holds (bitAt
         same-n = refl;
         same-w = refl;
         accepted = (pair-legal k small (s .rec) (s .words) en 1 (F .enable .legal) 0 (omega arith), (pairs-legal k small (s .rec) (s .words) a (s .rec .n) (F .address .legal), lq), four);
-        keeping = λ z. absurd (false≢true z);
+        left-out = λ z. absurd (false≢true z);
         holds =
             let G = grown-holds σ s h H (access (read p en a out)) S (X (pairAt σ (s .words) held) (names-port F)) e in
             record { entries = G .entries; checked = G .checked };
@@ -312,7 +321,7 @@ module _ (k : ℕ) (small : k < 2 ^ 64) (s : State) (h : Held) (H : Holds (bitAt
         same-n = refl;
         same-w = refl;
         accepted = ((pairs-legal k small (s .rec) (s .words) a (s .rec .n) (F .address .legal), lq), (pairs-legal k small (s .rec) (s .words) d (s .rec .w) (F .word .legal), length-pairs σ (s .words) d 0 (s .rec .w)));
-        keeping = λ z. absurd (false≢true z);
+        left-out = λ z. absurd (false≢true z);
         holds = record {
           entries = entries-at (s .rec) (x .store .count) (s .rec .asserted) (x .answer) (grown-entries σ s h H (access (check b a d)) S X e);
           checked = free-store (λ (t : Store). Means σ 8 (λ τ. h .condition && checkHolds (s .rec .n) (s .rec .w) (h .entries) (value (s .words) σ b) qs ds) (x .words) t (x .answer)) (x .store) e (X .post);
@@ -392,7 +401,7 @@ module _ (k : ℕ) (small : k < 2 ^ 64) (s : State) (h : Held) (H : Holds (bitAt
             same-n = refl;
             same-w = refl;
             accepted = legal-arguments;
-            keeping = λ z. eq→T t;
+            left-out = λ z. eq→T t;
             holds = record { entries = entries-at r (x .store .count) (x .answer .condition) (r .checked) entries1; checked = checked1 };
             long = λ n. n;
             ports = λ n P. let Q = ports1 P in record { words = Q .words };
@@ -422,7 +431,7 @@ module _ (k : ℕ) (small : k < 2 ^ 64) (s : State) (h : Held) (H : Holds (bitAt
             same-n = refl;
             same-w = refl;
             accepted = legal-arguments;
-            keeping = λ z. absurd (false≢true z);
+            left-out = λ z. absurd (false≢true z);
             holds = record {
               entries = entries-more (withAssertCondition (grown s (y .words) (y .store .count)) (x .answer .condition) .rec) (s .list) (y .answer) a d (entry (control β) qs ds) (facts .compared .address .long) (facts .compared .word .long) room
                   (entries-at r (y .store .count) (x .answer .condition) (r .checked) E2)
@@ -441,8 +450,8 @@ module _ (k : ℕ) (small : k < 2 ^ 64) (s : State) (h : Held) (H : Holds (bitAt
       unfolding enter closed
       enter-follows =
           split (eqb (x .answer .keep) 1) (λ t. rw t (kept-follows (eqb-true _ _ t)))
-          (λ t. split (row8 r (s .words) (s .list))
-          (λ u. rw (t, u) (nine-follows σ s h H (access (assert b a d)) standard y _ (entered-follows (omega (arith, leb-true (r .entries + 1) (listCapacity r (s .list)) u)))))
+          (λ t. split (spaceFor r (s .words) 1 (s .list))
+          (λ u. rw (t, u) (nine-follows σ s h H (access (assert b a d)) standard y _ (entered-follows (space-room r (s .words) (s .list) u))))
           (λ u. rw (t, u) (cleared-follows σ s h H (access (assert b a d)) standard 8)))
 
     assert-follows : Follows σ s h (access (assert b a d)) (closed s (finish (access (assert b a d)) s))
@@ -451,18 +460,18 @@ module _ (k : ℕ) (small : k < 2 ^ 64) (s : State) (h : Held) (H : Holds (bitAt
 
   node-follows : (c : NodeCall) → refusal (nodeCall c) s ≡ 0 → Follows σ s h (nodeCall c) (closed s (finish (nodeCall c) s))
   unfolding finishNode closed
-  node-follows (evaluate f φ) e = record { same-n = refl; same-w = refl; accepted = tt; keeping = λ z. absurd (false≢true z); holds = H; long = λ n. n; ports = λ n P. P; bits = λ P i l b. (λ z. z, λ z. z) }
+  node-follows (evaluate f φ) e = record { same-n = refl; same-w = refl; accepted = tt; left-out = λ z. absurd (false≢true z); holds = H; long = λ n. n; ports = λ n P. P; bits = λ P i l b. (λ z. z, λ z. z) }
   node-follows (variable v) e =
       let F = variable-facts s v e in
       let X = variable-means {σ = σ} {s = begin (s .rec)} {v = v} (F .standard) (omega (arith, F .named .1)) in
       nine-follows σ s h H (nodeCall (variable v)) (F .standard) (Variable v (s .words) (begin (s .rec))) _
-      (λ f. record { same-n = refl; same-w = refl; accepted = tt; keeping = λ z. absurd (false≢true z); holds = grown-holds σ s h H (nodeCall (variable v)) (F .standard) X f; long = λ n. n; ports = λ n P. grown-ports σ s h H (nodeCall (variable v)) (F .standard) X f P; bits = λ P i l b. (λ z. z, λ z. z) })
+      (λ f. record { same-n = refl; same-w = refl; accepted = tt; left-out = λ z. absurd (false≢true z); holds = grown-holds σ s h H (nodeCall (variable v)) (F .standard) X f; long = λ n. n; ports = λ n P. grown-ports σ s h H (nodeCall (variable v)) (F .standard) X f P; bits = λ P i l b. (λ z. z, λ z. z) })
   node-follows (ite f g j) e =
       let F = ite-facts s f g j e in
       let S = F .standard in
       let X = ite-means S (name-means σ (s .rec) (s .words) S (F .named .0)) (name-means σ (s .rec) (s .words) S (F .named .1)) (name-means σ (s .rec) (s .words) S (F .named .2)) in
       nine-follows σ s h H (nodeCall (ite f g j)) S (Ite f g j (s .words) (begin (s .rec))) _
-      (λ q. record { same-n = refl; same-w = refl; accepted = tt; keeping = λ z. absurd (false≢true z); holds = grown-holds σ s h H (nodeCall (ite f g j)) S X q; long = λ n. n; ports = λ n P. grown-ports σ s h H (nodeCall (ite f g j)) S X q P; bits = λ P i l b. (λ z. z, λ z. z) })
+      (λ q. record { same-n = refl; same-w = refl; accepted = tt; left-out = λ z. absurd (false≢true z); holds = grown-holds σ s h H (nodeCall (ite f g j)) S X q; long = λ n. n; ports = λ n P. grown-ports σ s h H (nodeCall (ite f g j)) S X q P; bits = λ P i l b. (λ z. z, λ z. z) })
 
   finish-follows : (c : Call) → refusal c s ≡ 0 → Follows σ s h c (closed s (finish c s))
   finish-follows (access (write c a d)) e = write-follows c a d e

@@ -6,8 +6,8 @@ use Prim.Native.Nat.{ℕ, zero, suc}
 use lib.Dec.{eqb}
 use Rattle.nodes.proofs.BoolLaws.{split}
 use Rattle.conditions.specs.Build.{Outcome}
-use Rattle.model.specs.Rows.{row8}
-use Rattle.model.specs.Step.{State, withPorts, write, read, assert, check, evaluate, variable, ite, Call, access, nodeCall, Result, refusal, Finish, full, short, gives, closed, unlessFull, assertFirst, enter, finishAccess, finishNode, finish, turnedDownBy, step, Answer}
+use Rattle.model.specs.Rows.{spaceFor}
+use Rattle.model.specs.Step.{State, withPorts, write, read, assert, check, evaluate, variable, ite, Call, access, nodeCall, Result, refusal, Finish, full, short, gives, closed, unlessFull, assertFirst, enter, isIdle, finishWrite, finishAccess, finishNode, finish, turnedDownBy, step, Answer}
 use Rattle.model.specs.Frames.{isRead, PortsUnseen}
 use Rattle.model.specs.Chain.{Answered}
 
@@ -31,15 +31,17 @@ unfolding unlessFull
 full-unseen ps x p q h = split (x .store .full) (λ f. rw f refl) (λ f. rw f h)
 
 finish-unseen : (c : Call) (s : State) (ps : List ℕ) → isRead c ≡ false → finish c (withPorts s ps) ≡ finished ps (finish c s)
-unfolding finishAccess finishNode enter
-finish-unseen (access (write c a d)) s ps e = full-unseen ps _ _ _ refl
+unfolding finishAccess finishWrite finishNode enter
+finish-unseen (access (write c a d)) s ps e =
+    split (isIdle c) (λ i. rw i refl)
+    (λ i. rw i (full-unseen ps _ _ _ (split (spaceFor (s .rec) (s .words) 1 (s .list)) (λ r. rw r refl) (λ r. rw r refl))))
 finish-unseen (access (read p c a d)) s ps e = absurd (true≢false e)
 finish-unseen (access (check b a d)) s ps e = full-unseen ps _ _ _ refl
 finish-unseen (access (assert b a d)) s ps e =
     let x = assertFirst b a d s in
     full-unseen ps x (enter s b a d) (enter (withPorts s ps) b a d)
     (split (eqb (x .answer .keep) 1) (λ k. rw k refl)
-    (λ k. split (row8 (s .rec) (s .words) (s .list)) (λ r. rw (k, r) (full-unseen ps _ _ _ refl)) (λ r. rw (k, r) refl)))
+    (λ k. split (spaceFor (s .rec) (s .words) 1 (s .list)) (λ r. rw (k, r) (full-unseen ps _ _ _ refl)) (λ r. rw (k, r) refl)))
 finish-unseen (nodeCall (evaluate f a)) s ps e = refl
 finish-unseen (nodeCall (variable v)) s ps e = full-unseen ps _ _ _ refl
 finish-unseen (nodeCall (ite f g h)) s ps e = full-unseen ps _ _ _ refl

@@ -79,7 +79,7 @@ abbrev pub writesOf : List Link → ℕ
 writesOf [] = 0
 writesOf (k ∷ ks) = acceptedWrites (k .answer) + writesOf ks
 
--- "The entry count is at most accepted writes plus accepted asserts."
+-- "The entry count is at most accepted writes plus accepted asserts.", idle writes not counted
 unfoldable pub ChainCount : Type 0
 ChainCount =
     (given : Record) (n w : ℕ) (ws ps : List ℕ) (s : State) → freshed (fresh given n w ws ps) ≡ (done accepted, s .rec, s .words, s .ports)

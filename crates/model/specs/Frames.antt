@@ -9,18 +9,11 @@ use Rattle.conditions.specs.Stores.{capacityOf, withTerminals, Extends, clearOf
 use Rattle.conditions.specs.declared.Store.{Store}
 use Rattle.model.specs.Record.{Record, size, replaced}
 use Rattle.model.specs.Rows.{row1, row2, row3, portsRow}
-use Rattle.model.specs.Step.{State, withWords, Access, write, read, assert, check, Call, access, nodeCall, Given, place, filled, entered, kept, accepted, valued, node, Answer, refused, done, isRefused, Filling, fills, fillsNone, filling, refusal, Finish, full, short, gives, finish, step, run, fresh, withPorts}
+use Rattle.model.specs.Step.{State, withWords, Access, write, read, assert, check, Call, access, nodeCall, Given, place, idle, filled, entered, kept, accepted, valued, node, Answer, refused, done, isRefused, Filling, fills, fillsNone, filling, refusal, Finish, full, short, gives, finish, step, run, fresh, withPorts}
 
--- "After 9, or 8 in an assert, all node words from the count to capacity are 0; otherwise untouched."
-abbrev pub isAssert : Call → Bool
-isAssert (access (write c a d)) = false
-isAssert (access (read p e a out)) = false
-isAssert (access (assert b a d)) = true
-isAssert (access (check b a d)) = false
-isAssert (nodeCall c) = false
-
-abbrev pub clears : Call → ℕ → Bool
-clears c k = eqb k 9 || isAssert c && eqb k 8
+-- "After 9, or 8 in an assert, all node words from the count to capacity are 0; otherwise untouched."; 02: "8 clears node words as 9 does", in a write too
+abbrev pub clears : ℕ → Bool
+clears k = eqb k 9 || eqb k 8
 
 abbrev pub wordsAfter : Bool → State → List ℕ
 wordsAfter true s = clearOf (s .words) (s .rec .count)
@@ -28,7 +21,7 @@ wordsAfter false s = s .words
 
 -- "A refusal .. returns its number; record, nodes below the count, list .. are untouched.", and the ports. (That a refused read leaves the answer words is `answerWords`.)
 unfoldable pub RefusalLeaves : Type 0
-RefusalLeaves = (c : Call) (s : State) (k : ℕ) → step c s .answer ≡ refused k → step c s .after ≡ withWords s (wordsAfter (clears c k) s)
+RefusalLeaves = (c : Call) (s : State) (k : ℕ) → step c s .answer ≡ refused k → step c s .after ≡ withWords s (wordsAfter (clears k) s)
 
 -- a refusal's number is one of the table's
 abbrev pub numbers : ℕ → Bool
@@ -56,6 +49,13 @@ unfoldable pub NineAtCapacity : Type 0
 NineAtCapacity = (c : Call) (s : State) → step c s .answer ≡ refused 9 → (t : Store) × (finish c s ≡ full t) × (t .count ≡ capacityOf (s .words))
 
 -- the assert condition is an assert's alone to change, the check condition a check's
+abbrev pub isAssert : Call → Bool
+isAssert (access (write c a d)) = false
+isAssert (access (read p e a out)) = false
+isAssert (access (assert b a d)) = true
+isAssert (access (check b a d)) = false
+isAssert (nodeCall c) = false
+
 abbrev pub isCheck : Call → Bool
 isCheck (access (write c a d)) = false
 isCheck (access (read p e a out)) = false
@@ -91,6 +91,17 @@ isRead (nodeCall c) = false
 
 unfoldable pub PortsUnseen : Type 0
 PortsUnseen = (c : Call) (s : State) (ps : List ℕ) → isRead c ≡ false → step c (withPorts s ps) ≡ record { answer = step c s .answer; after = withPorts (step c s .after) ps }
+
+-- 02, of an idle write: "It builds no condition", and is "no longer entered": a call that answers idle is a write, and leaves everything as it was
+abbrev pub isWrite : Call → Bool
+isWrite (access (write c a d)) = true
+isWrite (access (read p e a out)) = false
+isWrite (access (assert b a d)) = false
+isWrite (access (check b a d)) = false
+isWrite (nodeCall c) = false
+
+unfoldable pub IdleLeaves : Type 0
+IdleLeaves = (c : Call) (s : State) → step c s .answer ≡ done idle → (isWrite c ≡ true) × (step c s .after ≡ s)
 
 -- "Success changes no older node or entry and no word past the new count."
 pub record Extended (s t : State) : Type 0 where
@@ -147,9 +158,10 @@ FreshNoRow123 =
     (given : Record) (n w : ℕ) (ws ps l : List ℕ) → fresh given n w ws ps .answer ≡ 0 → (cs : List Call) (c : Call) (k : ℕ)
     → step c (run cs (freshState given n w ws ps l)) .answer ≡ refused k → 4 ≤ k
 
--- one for an accepted write and for an accepted assert, by what it gives
+-- one for an accepted write that is not idle and for an accepted assert, by what it gives
 abbrev pub writeOrAssert : Given → ℕ
 writeOrAssert (place k) = 1
+writeOrAssert idle = 0
 writeOrAssert (filled r) = 0
 writeOrAssert entered = 1
 writeOrAssert kept = 1
@@ -165,6 +177,6 @@ abbrev pub accepts : List Call → State → ℕ
 accepts [] s = 0
 accepts (c ∷ cs) s = acceptedWrites (step c s .answer) + accepts cs (step c s .after)
 
--- "The entry count is at most accepted writes plus accepted asserts."
+-- "The entry count is at most accepted writes plus accepted asserts.", idle writes not counted
 unfoldable pub CountAtMost : Type 0
 CountAtMost = (cs : List Call) (s : State) → run cs s .rec .entries ≤ s .rec .entries + accepts cs s

@@ -29,7 +29,7 @@ hold s p word = record { entries = s .entries; ports = λ q. cond (eqb q p) word
 abbrev pub demand : Held → Bool → Held
 demand s c = record { entries = s .entries; ports = s .ports; condition = s .condition && c }
 
--- Each accepted write and assert is entered: one that is kept would change no cell (`kept-same`).
+-- Each accepted write and assert is entered: a write that is idle and an assert that is kept would change no cell (`idle-same`, `kept-same`).
 abbrev pub heldAfter : ℕ → ℕ → Held → Event → Held
 heldAfter n w s (writes c a d) = add s (entry c a d)
 heldAfter n w s (reads p e a) = hold s p (answer n (s .entries) (s .ports p) e a)

@@ -10,7 +10,7 @@ use Rattle.conditions.specs.Assignment.{bitAt}
 use Rattle.model.specs.Pairs.{Pair}
 use Rattle.model.specs.Record.{Record, entryAt, addressOf, dataOf, heldWord}
 use Rattle.model.specs.Published.{Entry, entry, answer, assertHolds, checkHolds, keeps, control}
-use Rattle.model.specs.Step.{State, write, read, assert, check, access, evaluate, variable, ite, nodeCall, place, filled, entered, kept, accepted, valued, node, done, Result, isRefused, step}
+use Rattle.model.specs.Step.{State, write, read, assert, check, access, evaluate, variable, ite, nodeCall, place, idle, filled, entered, kept, accepted, valued, node, done, Result, isRefused, step}
 use Rattle.model.specs.Claims.{pairAt, pairs}
 
 -- entry j of the list, under an assignment
@@ -50,6 +50,7 @@ Enters φ s t c a d = entryValues φ t ≡ entryValues φ s ++ (entry c (address
 -- of any state s, under one assignment, each answer and what it leaves
 pub record Meant (φ : ℕ → Bool) (s : State) : Type 0 where
   pub write-enters : (c a d : List ℕ) (k : ℕ) → step (access (write c a d)) s .answer ≡ done (place k) → (k ≡ s .rec .entries) × Enters φ s (step (access (write c a d)) s .after) (pairAt φ (s .words) c 0) a d
+  pub write-idles : (c a d : List ℕ) → step (access (write c a d)) s .answer ≡ done idle → (pairAt φ (s .words) c 0 .h ≡ false) × (entryValues φ (step (access (write c a d)) s .after) ≡ entryValues φ s)
   pub read-fills : (p : ℕ) (e a out r : List ℕ) → step (access (read p e a out)) s .answer ≡ done (filled r) → (i : ℕ) → i < s .rec .w
       → pairAt φ (step (access (read p e a out)) s .after .words) r i ≡ answer (s .rec .n) (entryValues φ s) (portValue φ s p) (pairAt φ (s .words) e 0) (addressArgument φ s a) i
   pub read-held : (p : ℕ) (e a out r : List ℕ) → step (access (read p e a out)) s .answer ≡ done (filled r) → length (s .ports) ≡ 128 → (q i : ℕ) → q < 4 → i < s .rec .w
@@ -73,6 +74,12 @@ pub record Meant (φ : ℕ → Bool) (s : State) : Type 0 where
 -- of every state, under every 64-bit assignment
 unfoldable pub Demand2 : Type 0
 Demand2 = (s : State) (a : ℕ) → a < 2 ^ 64 → Meant (bitAt a) s
+
+-- 02: "asserts .. must follow": none is idle, and one whose b is 0 under every assignment is kept, as before
+unfoldable pub KeptWhereNever : Type 0
+KeptWhereNever =
+    (s : State) (b : ℕ) (a d : List ℕ) → isRefused (step (access (assert b a d)) s .answer) ≡ false → ((k : ℕ) → k < 2 ^ 64 → value (s .words) (bitAt k) b ≡ false)
+    → step (access (assert b a d)) s .answer ≡ done kept
 
 -- an assert is entered only where some assignment does not keep it
 unfoldable pub EnteredWhere : Type 0

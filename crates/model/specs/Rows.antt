@@ -1,4 +1,4 @@
--- 01, 'Turned down': rows 1 to 7 of the table, 8 in a write, and 02's 14 in a read. The first test that fails refuses, by its number; 0 is none.
+-- 01, 'Turned down': rows 1 to 7 of the table, and 02's 14 in a read. The first test that fails refuses, by its number; 0 is none. Row 8 is asked later, where an entry is needed.
 use mathlib.Core.Bool.{Bool, true, false, cond, not, _&&_}
 use mathlib.Core.List.{List, [], _∷_}
 use Prim.Native.Nat.{ℕ, _+_, _*_}
@@ -43,26 +43,22 @@ module _ (r : Record) (w : List ℕ) where
       leb (r .entries) (listCapacity r l) && every (λ i. isUser w (r .count) (getD l i 0)) 0 (r .entries * size r)
       && isUser w (r .count) (r .asserted) && isUser w (r .count) (r .checked)
 
-  -- space for k entries more; row 8: "no space for the entry"
+  -- row 8: "no space for the entry": there is space for k entries more
   abbrev pub spaceFor : ℕ → List ℕ → Bool
   spaceFor k l = leb (r .entries + k) (listCapacity r l)
-
-  abbrev pub row8 : List ℕ → Bool
-  row8 l = spaceFor 1 l
 
   -- rows 1 to 3 of an access
   abbrev pub memoryRows : List ℕ → List Row → List Row
   memoryRows l ts = (1, row1) ∷ (2, row2) ∷ (3, row3 l) ∷ ts
 
   -- row 4: "a slice not exactly 2n or 2w words, an enable not 2". Row 5: "an access's .. node not below the count or on an index variable".
-  -- Row 6: "some assignment makes a pair neither". Row 7: "some assignment has b and an X address bit". Row 8: "no space for the entry"
+  -- Row 6: "some assignment makes a pair neither". Row 7: "some assignment has b and an X address bit"
   abbrev pub writeRows : List ℕ → List ℕ → List ℕ → List ℕ → List Row
   writeRows l c a d =
       memoryRows l
       ((4, eqb (length c) 2 && eqb (length a) (addressWords r) && eqb (length d) (dataWords r))
       ∷ (5, users c && users a && users d)
       ∷ (6, legalPairs c 1 && legalPairs a (r .n) && legalPairs d (r .w))
-      ∷ (8, row8 l)
       ∷ [])
 
   -- 02: "A held word that 5 would refuse meets 3": the words that the four ports hold

@@ -5,7 +5,7 @@ use mathlib.Core.List.{List, [], _∷_, _++_}
 use Prim.Native.Nat.{ℕ}
 use lib.Dec.{eqb}
 use lib.ListN.{replicate}
-use Rattle.model.specs.Step.{State, write, read, check, Call, access, Given, place, filled, entered, kept, accepted, valued, node, Answer, refused, done, isRefused, Result, step, run, freshRecord, fresh}
+use Rattle.model.specs.Step.{State, write, read, check, Call, access, Given, place, idle, filled, entered, kept, accepted, valued, node, Answer, refused, done, isRefused, Result, step, run, freshRecord, fresh}
 
 -- the pairs of the rulings, h before l, of node 1 (true) and node 0 (false)
 abbrev pub one : List ℕ
@@ -30,10 +30,11 @@ d at a = access (write one a d)
 abbrev pub lent : List ℕ
 lent = 0 ∷ 0 ∷ []
 
--- what the last call of a line is to give: a read's words; or, of a check, accepted and the check condition after it, 1 where it "holds" and 0 where "not"
+-- what the last call of a line is to give: a read's words; of a check, accepted and the check condition after it, 1 where it "holds" and 0 where "not"; of a write, that it is idle
 pub data Expected : Type 0 where
   reading : List ℕ → Expected
   leaving : ℕ → Expected
+  idling : Expected
 
 pub record Ruling : Type 0 where
   pub w : ℕ
@@ -63,7 +64,8 @@ rulings =
     ∷ ruling 1 (one at nought ∷ nought at one ∷ []) (access (read 0 one unknown lent)) (reading unknown)
     -- "R8 1@0, 1@1, 0@X, read 0: X."
     ∷ ruling 1 (one at nought ∷ one at one ∷ nought at unknown ∷ []) (access (read 0 one nought lent)) (reading unknown)
-    -- "R9 1@0 with enable 0, read 0: X."
+    -- "R9 1@0 with enable 0, read 0: X.": its write is idle, and it "keeps its answer"
+    ∷ ruling 1 [] (access (write nought nought one)) idling
     ∷ ruling 1 (access (write nought nought one) ∷ []) (access (read 0 one nought lent)) (reading unknown)
     -- "R10 1@0, read 0 with enable X: X.", on a fresh port
     ∷ ruling 1 (one at nought ∷ []) (access (read 0 unknown nought lent)) (reading unknown)
@@ -94,6 +96,7 @@ Taken (c ∷ cs) s = ((k : ℕ) → step c s .answer ≡ refused k → ⊥) × T
 abbrev pub Gives : Expected → Answer → ℕ → Type 0
 Gives (reading ws) x c = x ≡ done (filled ws)
 Gives (leaving k) x c = (x ≡ done accepted) × (c ≡ k)
+Gives idling x c = x ≡ done idle
 
 abbrev pub Says : Ruling → Type 0
 Says r = Taken (r .before) (start (r .w)) × Gives (r .expected) (result r .answer) (result r .after .rec .checked)
@@ -110,12 +113,17 @@ sameWords (x ∷ xs) (y ∷ ys) = eqb x y && sameWords xs ys
 
 abbrev pub fits : Expected → Given → ℕ → Bool
 fits e (place k) c = false
+fits (reading ws) idle c = false
+fits (leaving k) idle c = false
+fits idling idle c = true
 fits (reading ws) (filled r) c = sameWords r ws
 fits (leaving k) (filled r) c = false
+fits idling (filled r) c = false
 fits e entered c = false
 fits e kept c = false
 fits (reading ws) accepted c = false
 fits (leaving k) accepted c = eqb c k
+fits idling accepted c = false
 fits e (valued b) c = false
 fits e (node n) c = false
 

@@ -13,7 +13,7 @@ use Rattle.conditions.specs.Value.{value}
 use Rattle.conditions.specs.Assignment.{bitAt}
 use Rattle.model.specs.Record.{Record, withCount, withEntries, withAsserted, withChecked, appended, heldWord, replaced, freshPorts}
 use Rattle.model.specs.Access.{Marks, Write, Read, AssertBuilt, Assert, Check}
-use Rattle.model.specs.Rows.{firstRow, row1, row8, writeRows, readRows, assertRows, checkRows, evaluateRows, variableRows, iteRows}
+use Rattle.model.specs.Rows.{firstRow, row1, spaceFor, writeRows, readRows, assertRows, checkRows, evaluateRows, variableRows, iteRows}
 
 -- "Record, node words and list go from call to call as the last one left them"; "the ports go from call to call as the list does"
 pub record State : Type 0 where
@@ -52,10 +52,11 @@ pub data Call : Type 0 where
   access : Access → Call
   nodeCall : NodeCall → Call
 
--- "A write answers its entry's place, counted from 0; a read fills 2w lent words; an assert answers entered or kept; a check answers accepted."
+-- "A write answers its entry's place, counted from 0", or by 02 idle; "a read fills 2w lent words; an assert answers entered or kept; a check answers accepted."
 -- Evaluate answers a value, variable and Ite a node
 pub data Given : Type 0 where
   place : ℕ → Given
+  idle : Given
   filled : List ℕ → Given
   entered : Given
   kept : Given
@@ -79,6 +80,7 @@ pub data Filling : Type 0 where
 
 abbrev pub fillingOf : Given → Filling
 fillingOf (place k) = fillsNone
+fillingOf idle = fillsNone
 fillingOf (filled r) = fills r
 fillingOf entered = fillsNone
 fillingOf kept = fillsNone
@@ -102,7 +104,7 @@ pub record Result : Type 0 where
   pub answer : Answer
   pub after : State
 
--- the first row that refuses a call, in the order in which its rows are listed, or 0. An assert's 8 and every 9 are met later, where they are built
+-- the first row that refuses a call, in the order in which its rows are listed, or 0. 8 and 9 are met later, where an entry is needed and where nodes are built
 abbrev pub accessRefusal : Access → State → ℕ
 accessRefusal (write c a d) s = firstRow (writeRows (s .rec) (s .words) (s .list) c a d)
 accessRefusal (read p e a out) s = firstRow (readRows (s .rec) (s .words) (s .list) (s .ports) p e a out)
@@ -122,7 +124,7 @@ refusal (nodeCall c) s = nodeRefusal c s
 abbrev pub turnedDown : ℕ → State → Result
 turnedDown k s = record { answer = refused k; after = s }
 
--- "After 9, or 8 in an assert, all node words from the count to capacity are 0"
+-- "After 9, or 8 in an assert, all node words from the count to capacity are 0"; 02: "8 clears node words as 9 does"
 abbrev pub cleared : ℕ → State → Result
 cleared k s = record { answer = refused k; after = withWords s (clearOf (s .words) (s .rec .count)) }
 
@@ -163,6 +165,10 @@ abbrev pub withNew : State → List NewEntry → State
 withNew s [] = s
 withNew s (e ∷ es) = withNew (withEntry s (e .marks) (e .address) (e .word)) es
 
+-- row 8, where k entries are needed: "no space for the entry"
+abbrev pub ifSpace : ℕ → State → Finish → Finish
+ifSpace k s x = cond (spaceFor (s .rec) (s .words) k (s .list)) x short
+
 -- another word in a port
 abbrev pub withHeld : State → ℕ → List ℕ → State
 withHeld s p word = withPorts s (replaced (s .ports) p word)
@@ -182,13 +188,25 @@ assertFirst b a d s = Assert (s .rec) (s .list) b a d (s .words) (begin (s .rec)
 unfoldable pub enter : State → ℕ → List ℕ → List ℕ → AssertBuilt → List ℕ → ℕ → Finish
 enter s b a d q w c =
     cond (eqb (q .keep) 1) (gives kept (withAssertCondition (grown s w c) (q .condition)))
-    (cond (row8 (s .rec) (s .words) (s .list))
-    (unlessFull (Write (s .rec .n) b (q .notB) a w (record { count = c; full = false })) (λ m w c. gives entered (withNew (withAssertCondition (grown s w c) (q .condition)) (record { marks = m; address = a; word = d } ∷ []))))
-    short)
+    (ifSpace 1 s (unlessFull (Write (s .rec .n) b (q .notB) a w (record { count = c; full = false })) (λ m w c. gives entered (withNew (withAssertCondition (grown s w c) (q .condition)) (record { marks = m; address = a; word = d } ∷ [])))))
+
+-- 02: "writes whose enable is 0 under every assignment": by its h, which is node 0. That node 0, and no other, is 0 under every assignment is `node-0-alone`; `WriteAnswers` says it of writes
+abbrev pub isIdle : List ℕ → Bool
+isIdle c = eqb (getD c 0 0) 0
+
+-- what another write builds
+abbrev pub writeBuilt : List ℕ → List ℕ → State → Outcome Marks
+writeBuilt c a s = Write (s .rec .n) (getD c 0 0) (getD c 1 0) a (s .words) (begin (s .rec))
+
+-- "Such a write is no longer entered"; "It builds no condition". "Refusal 8 is met only by a write that would be entered, after its conditions are built"
+unfoldable pub finishWrite : List ℕ → List ℕ → List ℕ → State → Finish
+finishWrite c a d s =
+    cond (isIdle c) (gives idle s)
+    (unlessFull (writeBuilt c a s) (λ m w k. ifSpace 1 s (gives (place (s .rec .entries)) (withNew (grown s w k) (record { marks = m; address = a; word = d } ∷ [])))))
 
 -- a call that no row refuses: its program, and what it gives and leaves
 unfoldable pub finishAccess : Access → State → Finish
-finishAccess (write c a d) s = unlessFull (Write (s .rec .n) (getD c 0 0) (getD c 1 0) a (s .words) (begin (s .rec))) (λ m w k. gives (place (s .rec .entries)) (withNew (grown s w k) (record { marks = m; address = a; word = d } ∷ [])))
+finishAccess (write c a d) s = finishWrite c a d s
 finishAccess (read p e a out) s = unlessFull (Read (s .rec) (s .list) (heldWord (s .rec) (s .ports) p) (getD e 0 0) (getD e 1 0) a (s .words) (begin (s .rec))) (λ r w k. gives (filled r) (withHeld (grown s w k) p r))
 finishAccess (assert b a d) s = unlessFull (assertFirst b a d s) (enter s b a d)
 finishAccess (check b a d) s = unlessFull (Check (s .rec) (s .list) b a d (s .words) (begin (s .rec))) (λ v w k. gives accepted (withCheckCondition (grown s w k) v))

@@ -4,11 +4,11 @@ use mathlib.Core.Bool.{Bool, true, false, cond, _&&_, true≢false}
 use mathlib.Core.List.{List, [], _∷_, _++_}
 use Prim.Native.Nat.{ℕ, zero, suc, _+_, _*_, _<_, _≤_}
 use native.Mathlib.Omega.{arith}
-use lib.Dec.{eqb, leb}
+use lib.Dec.{eqb, ltb, leb}
 use lib.ListN.{length, getD, drop}
-use borrow.Author.Tests.{eq-eqb, le-leb, lt-leb}
+use borrow.Author.Tests.{eq-eqb, le-leb, lt-leb, ltb-true, ltb-false}
 use Rattle.nodes.specs.Search.{every}
-use Rattle.nodes.proofs.BoolLaws.{both-and}
+use Rattle.nodes.proofs.BoolLaws.{split, both-and}
 use Rattle.nodes.proofs.SearchLaws.{every-is, every-step, every-end}
 use Rattle.conditions.specs.Stores.{Standard, clearOf}
 use Rattle.conditions.specs.User.{isUser}
@@ -18,7 +18,7 @@ use Rattle.conditions.specs.Contract.{Sound}
 use Rattle.conditions.proofs.Promises.{standard-is, user-is}
 use Rattle.model.specs.Record as model
 use Rattle.model.specs.Rows.{Row, firstRow, users, legalPairs, row1, row2, row3, memoryRows, checkRows}
-use Rattle.model.specs.Step.{State, withWords, Access, NodeCall, Call, access, nodeCall, Given, accepted, Answer, refused, isRefused, Result, refusal, Finish, full, closed, unlessFull, finishAccess, finishNode, finish, turnedDownBy, step}
+use Rattle.model.specs.Step.{State, withWords, Access, NodeCall, Call, access, nodeCall, Given, accepted, Answer, refused, isRefused, Result, refusal, Finish, full, short, closed, unlessFull, finishAccess, finishNode, finish, turnedDownBy, step}
 use Rattle.model.specs.Chain.{Answered, AnswersNode}
 use Rattle.model.specs.Frames.{Valid}
 use Rattle.model.specs.Table.{Slice, MemoryFacts}
@@ -61,6 +61,18 @@ module _ (c : NodeCall) (s : State) {k : ℕ} (e : k ≡ refusal (nodeCall c) s)
   pub node-acted : k ≡ 0 → step (nodeCall c) s ≡ closed s (finishNode c s)
   node-acted z = step-acted (nodeCall c) s e z
 
+-- what `clear_where` leaves of the words, where it refuses and where it does not
+module _ (w : List ℕ) {w′ : List ℕ} (c : ℕ) (b : Bool) {t : Bool} (o : (w′, t) ≡ clearedWhere w c b) where
+  pub cleared-by : t ≡ true → (w′ ≡ clearOf w c) × (b ≡ true)
+  cleared-by e =
+      let f : b ≡ true = sym (ap (λ (z : List ℕ × Bool). z .1) o) ∙ e in
+      (ap (λ (z : List ℕ × Bool). z .0) o ∙ ap (λ (b : Bool). cond b (clearOf w c) w) f, f)
+
+  pub left-by : t ≡ false → (w′ ≡ w) × (b ≡ false)
+  left-by e =
+      let f : b ≡ false = sym (ap (λ (z : List ℕ × Bool). z .1) o) ∙ e in
+      (ap (λ (z : List ℕ × Bool). z .0) o ∙ ap (λ (b : Bool). cond b (clearOf w c) w) f, f)
+
 -- what a call answers of the program x, which left the words w and the store u; `clear_where` made w′ of the words, and t says whether u is full
 module _ {A : Type 0} (s : State) (x : Outcome A) (k : A → List ℕ → ℕ → Finish) {w w′ : List ℕ} {u : Store} {a : A} {t : Bool} (is : _≡_ {A = Outcome A} (record { words = w; store = u; answer = a }) x)
     (o : (w′, t) ≡ clearedWhere w (s .rec .count) (u .full)) where
@@ -83,17 +95,13 @@ module _ {A : Type 0} (s : State) (x : Outcome A) (k : A → List ℕ → ℕ �
   pub done-acts : t ≡ false → closed s (unlessFull x k) ≡ closed s (k a w′ (u .count))
   done-acts e = ap (closed s) (acts-by e) ∙ ap (λ (l : List ℕ). closed s (k a l (u .count))) (sym (words-are e))
 
--- what `clear_where` leaves of the words, where it refuses and where it does not
-module _ (w : List ℕ) {w′ : List ℕ} (c : ℕ) (b : Bool) {t : Bool} (o : (w′, t) ≡ clearedWhere w c b) where
-  pub cleared-by : t ≡ true → (w′ ≡ clearOf w c) × (b ≡ true)
-  cleared-by e =
-      let f : b ≡ true = sym (ap (λ (z : List ℕ × Bool). z .1) o) ∙ e in
-      (ap (λ (z : List ℕ × Bool). z .0) o ∙ ap (λ (b : Bool). cond b (clearOf w c) w) f, f)
-
-  pub left-by : t ≡ false → (w′ ≡ w) × (b ≡ false)
-  left-by e =
-      let f : b ≡ false = sym (ap (λ (z : List ℕ × Bool). z .1) o) ∙ e in
-      (ap (λ (z : List ℕ × Bool). z .0) o ∙ ap (λ (b : Bool). cond b (clearOf w c) w) f, f)
+  -- then a second `clear_where` made w″ of these words, and what follows has no space
+  pub eight-acts : clearOf (x .words) (s .rec .count) ≡ clearOf (s .words) (s .rec .count) → t ≡ false → {w″ : List ℕ} {b v : Bool} → (w″, v) ≡ clearedWhere w′ (s .rec .count) b → v ≡ true → k a w′ (u .count) ≡ short
+      → closed s (unlessFull x k) ≡ record { answer = refused 8; after = withWords s w″ }
+  unfolding closed
+  eight-acts cl e {b = b} q f z =
+      let g = cleared-by w′ (s .rec .count) b q f .0 ∙ ap (λ (l : List ℕ). clearOf l (s .rec .count)) (words-are e) ∙ ap (λ (y : Outcome A). clearOf (y .words) (s .rec .count)) is ∙ cl in
+      done-acts e ∙ ap (closed s) z ∙ ap (λ (l : List ℕ). record { answer = refused 8; after = withWords s l }) (sym g)
 
 pub not-full : {w m : List ℕ} (u : Store) → u .full ≡ false → Sound w m u → Sound w m (record { count = u .count; full = false })
 not-full {w} {m} u f S = subst (λ (b : Bool). Sound w m (record { count = u .count; full = b })) f S
@@ -160,11 +168,8 @@ lengths-turned c s t ts is K e = turned c s (sym (is ∙ valid-rows s K ((4, t) 
     first = rw e
 
 -- row 8's test by the count and the capacity
-pub space-is : (a b : ℕ) → a < b → leb (a + 1) b ≡ true
-space-is a b h = le-leb (a + 1) b (omega arith)
-
-pub no-space-is : (a b : ℕ) → b ≤ a → leb (a + 1) b ≡ false
-no-space-is a b h = lt-leb (a + 1) b (omega arith)
+pub space-is : (a b : ℕ) → ltb a b ≡ leb (a + 1) b
+space-is a b = split (ltb a b) (λ t. rw (t, le-leb (a + 1) b (omega (arith, ltb-true a b t)))) (λ t. rw (t, lt-leb (a + 1) b (omega (arith, ltb-false a b t))))
 
 -- a row whose test holds
 pub row-passes : {t : Bool} (k : ℕ) (ts : List Row) → t ≡ true → firstRow ((k, t) ∷ ts) ≡ firstRow ts

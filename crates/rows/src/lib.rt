@@ -6,7 +6,7 @@ ghost use Prim.Native.Nat.{ℕ, _*_, _≤_};
 ghost use lib.ListN.{length};
 ghost use Rattle.conditions.specs.Stores.{Standard};
 ghost use Rattle.model.specs.Record.{size, listCapacity, appended};
-ghost use Rattle.model.specs.Rows.{firstRow, row1, row2, row3, memoryRows, checkRows};
+ghost use Rattle.model.specs.Rows.{firstRow, row1, row2, row3, spaceFor, memoryRows, checkRows};
 ghost use Rattle.model.specs.Step.{begin};
 ghost use Rattle.model.specs.Frames.{Valid};
 ghost use Rattle.rows.specs.Contract.{recordOf, stateOf, argumentRows, clearedWhere, EntryFits};
@@ -76,6 +76,14 @@ impl Fields {
     {
         let k = list.len() / self.size();
         if k < 4096 { k as u32 } else { 4096 }
+    }
+
+    // Whether there is space for one entry more.
+    pub fn has_space(self, list: &[u32]) -> bool
+        requires { ⌜ (self .n ≤ 8) × (self .w ≤ 16) ⌝ }
+        ensures { λ b. ⌜ b ≡ spaceFor (recordOf self) [] 1 (now (list .entry)) ⌝ }
+    {
+        self.entries < self.list_capacity(list)
     }
 
     // The list's next entry.

@@ -57,6 +57,13 @@ no-zero-first =
 pub no-leading-zero : (x : ℕ) (s : List ℕ) → 1 ≤ x → decimal x ≡ 48 ∷ s → ⊥
 no-leading-zero x s h e = no-zero-first x h [] s (append-nil (decimal x) ∙ e)
 
+-- A number begins with a digit.
+pub digit-first : (x : ℕ) (r s : List ℕ) (c : ℕ) → decimal x ++ r ≡ c ∷ s → (48 ≤ c) × (c < 58)
+digit-first =
+    by-tenths (λ x. (r s : List ℕ) (c : ℕ) → decimal x ++ r ≡ c ∷ s → (48 ≤ c) × (c < 58))
+    (λ x l r s c e. let z : 48 + x ≡ c = cc (rw (decimal-small x l) at e) in (omega (arith, z), omega (arith, z, l)))
+    (λ x l k r s c e. k ((48 + x % 10) ∷ r) s c (rw (decimal-large x l, append-assoc) at e))
+
 -- The number that the digits at the beginning of a text say, after those of n, and the rest of the text.
 number : ℕ → List ℕ → ℕ × List ℕ
 number n [] = (n, [])

@@ -1,54 +1,75 @@
--- A write by its rows.
-use mathlib.Core.Path.{_≡_, refl, sym, _∙_}
-use mathlib.Core.Bool.{Bool, true, false, cond}
-use mathlib.Core.List.{List, [], _∷_, _++_}
+-- A write by its rows, what they leave, and what the tests before building decide.
+use mathlib.Core.Path.{_≡_, refl, sym, subst, _∙_}
+use mathlib.Core.Bool.{Bool, true, false, cond, not, _&&_, _||_, true≢false}
+use mathlib.Core.List.{List}
 use Prim.Native.Nat.{ℕ, _*_, _<_, _≤_}
 use native.Mathlib.Omega.{arith}
+use lib.Dec.{eqb}
 use lib.ListN.{length, getD, drop}
-use borrow.Author.Tests.{eq-eqb}
+use borrow.Author.Tests.{eq-eqb, eqb-true, eqb-false}
 use Rattle.nodes.proofs.BoolLaws.{both-and}
 use Rattle.conditions.specs.Stores.{clearOf}
+use Rattle.conditions.specs.Contract.{Sound}
 use Rattle.conditions.proofs.Promises.{builds-clear}
-use Rattle.model.specs.Record as model
-use Rattle.model.specs.Access as built
-use Rattle.model.specs.Rows.{firstRow, row8, writeRows}
-use Rattle.model.specs.Step.{State, begin}
+use Rattle.model.specs.Rows.{firstRow, writeRows}
+use Rattle.model.specs.Step.{State, write, place, idle, begin, isIdle, closed, finishWrite, finishAccess, writeBuilt}
 use Rattle.model.specs.Frames.{Valid}
-use Rattle.model.proofs.FactLaws.{first-append, space-room, write-facts}
+use Rattle.model.proofs.FactLaws.{write-facts}
 use Rattle.model.proofs.ProgramLaws.{write-program}
 use Rattle.rows.specs.declared.Fields.{Fields}
-use Rattle.rows.specs.Contract.{recordOf, stateOf, argumentRows}
-use Rattle.rows.proofs.CallLaws.{valid-rows, row-passes}
+use Rattle.rows.specs.Contract.{recordOf, stateOf, unlessRefused, argumentRows, Answers, AnswersOn}
+use Rattle.rows.proofs.CallLaws.{valid-rows, row-passes, turned, acted}
+use Rattle.write_access.specs.declared.WriteDone.{WriteDone}
+use Rattle.write_access.specs.Contract.{writeAnswer, testedAs}
 
--- of a valid memory it has the rows of its arguments, and 8
+-- of a valid memory it has the rows of its arguments
 pub write-row-is : (s : State) → Valid s → (c a d : List ℕ) → length c ≡ 2 → length a ≡ 2 * s .rec .n → length d ≡ 2 * s .rec .w
-    → firstRow (writeRows (s .rec) (s .words) (s .list) c a d) ≡ firstRow (argumentRows (s .rec) (s .words) c 1 a d (s .rec .w) ++ ((8, row8 (s .rec) (s .words) (s .list)) ∷ []))
+    → firstRow (argumentRows (s .rec) (s .words) c 1 a d (s .rec .w)) ≡ firstRow (writeRows (s .rec) (s .words) (s .list) c a d)
 write-row-is s K c a d lc la ld =
     let ts = writeRows (s .rec) (s .words) (s .list) c a d in
-    valid-rows s K (drop 3 ts) ∙ row-passes 4 (drop 4 ts) (both-and (both-and (eq-eqb (length c) 2 lc) (eq-eqb (length a) (2 * s .rec .n) la)) (eq-eqb (length d) (2 * s .rec .w) ld))
-
--- where those of its arguments pass, 8 is what is left
-pub write-eight : (s : State) (c a d : List ℕ) {k : ℕ} → k ≡ firstRow (argumentRows (s .rec) (s .words) c 1 a d (s .rec .w)) → k ≡ 0
-    → firstRow (argumentRows (s .rec) (s .words) c 1 a d (s .rec .w) ++ ((8, row8 (s .rec) (s .words) (s .list)) ∷ [])) ≡ cond (row8 (s .rec) (s .words) (s .list)) 0 8
-write-eight s c a d e z = first-append (argumentRows (s .rec) (s .words) c 1 a d (s .rec .w)) ((8, row8 (s .rec) (s .words) (s .list)) ∷ []) refl (sym e ∙ z)
+    sym (valid-rows s K (drop 3 ts) ∙ row-passes 4 (drop 4 ts) (both-and (both-and (eq-eqb (length c) 2 lc) (eq-eqb (length a) (2 * s .rec .n) la)) (eq-eqb (length d) (2 * s .rec .w) ld)))
 
 -- what its rows leave
-pub record WriteHolds (r : Fields) (w l c a d : List ℕ) : Type 0 where
-  pub few : r .n ≤ 8
-  pub wide : r .w ≤ 16
-  pub space : r .entries < model.listCapacity (recordOf r) l
-  pub enable : (k : ℕ) → k < 2 → getD c k 0 < r .count
-  pub address : (k : ℕ) → k < length a → getD a k 0 < r .count
-  pub clears : clearOf (built.Write (r .n) (getD c 0 0) (getD c 1 0) a w (begin (recordOf r)) .words) (r .count) ≡ clearOf w (r .count)
+pub record WriteHolds (s : State) (c a d : List ℕ) : Type 0 where
+  pub few : s .rec .n ≤ 8
+  pub wide : s .rec .w ≤ 16
+  pub two : length c ≡ 2
+  pub pairs : length a ≡ 2 * s .rec .n
+  pub word : length d ≡ 2 * s .rec .w
+  pub enable : (k : ℕ) → k < 2 → getD c k 0 < s .rec .count
+  pub address : (k : ℕ) → k < length a → getD a k 0 < s .rec .count
+  pub clears : clearOf (writeBuilt c a s .words) (s .rec .count) ≡ clearOf (s .words) (s .rec .count)
 
-pub write-holds : (r : Fields) (w l c a d : List ℕ) {k : ℕ} → k ≡ firstRow (writeRows (recordOf r) w l c a d) → k ≡ 0 → WriteHolds r w l c a d
-write-holds r w l c a d e z =
-    let F = write-facts (stateOf r w l) c a d (sym e ∙ z) in
+pub write-holds : (s : State) (c a d : List ℕ) → firstRow (writeRows (s .rec) (s .words) (s .list) c a d) ≡ 0 → WriteHolds s c a d
+write-holds s c a d z =
+    let F = write-facts s c a d z in
     record {
       few = F .memory .range .n-most;
       wide = F .memory .range .w-most;
-      space = space-room (recordOf r) w l (F .space);
+      two = F .enable .long;
+      pairs = F .address .long;
+      word = F .word .long;
       enable = λ k h. F .enable .names k (omega arith) .below;
       address = λ k h. F .address .names k (omega (arith, F .address .long)) .below;
-      clears = builds-clear (write-program (λ k. false) (stateOf r w l) c a d F);
+      clears = builds-clear (write-program (λ k. false) s c a d F);
     }
+
+module _ (r : Fields) (w l c a d : List ℕ) {k : ℕ} (x : WriteDone) (q : x ≡ testedAs r k (isIdle c)) (e : k ≡ firstRow (writeRows (recordOf r) w l c a d)) where
+  -- refused, or idle
+  pub tested-done : (not (eqb (x .row) 0) || x .idle) ≡ true → {table : List ℕ} → Sound w table (begin (recordOf r)) → AnswersOn (write c a d) (stateOf r w l) (stateOf (x .after) w l) (writeAnswer (x .row) (x .idle) (r .entries)) table
+  unfolding finishAccess finishWrite closed
+  tested-done t {table} S =
+      subst (λ (x : WriteDone). (not (eqb (x .row) 0) || x .idle) ≡ true → AnswersOn (write c a d) (stateOf r w l) (stateOf (x .after) w l) (writeAnswer (x .row) (x .idle) (r .entries)) table) (sym q)
+      (λ t. record { is = go (eqb k 0) refl t; sound = λ n. S }) t
+    where
+      go : (b : Bool) → eqb k 0 ≡ b → (not b || b && isIdle c) ≡ true → Answers (write c a d) (stateOf r w l) (stateOf r w l) (unlessRefused k (cond (b && isIdle c) idle (place (r .entries))))
+      go true z t = acted (write c a d) (stateOf r w l) e (eqb-true k 0 z) ∙ (rw (t, eqb-true k 0 z))
+      go false z t = turned (write c a d) (stateOf r w l) e (place (r .entries)) (eqb-false k 0 z)
+
+  -- or neither
+  pub tested-left : (not (eqb (x .row) 0) || x .idle) ≡ false → (firstRow (writeRows (recordOf r) w l c a d) ≡ 0) × (isIdle c ≡ false)
+  tested-left t = subst (λ (x : WriteDone). (not (eqb (x .row) 0) || x .idle) ≡ false → (firstRow (writeRows (recordOf r) w l c a d) ≡ 0) × (isIdle c ≡ false)) (sym q) (λ t. go (eqb k 0) refl t) t
+    where
+      go : (b : Bool) → eqb k 0 ≡ b → (not b || b && isIdle c) ≡ false → (firstRow (writeRows (recordOf r) w l c a d) ≡ 0) × (isIdle c ≡ false)
+      go true z t = (sym e ∙ eqb-true k 0 z, t)
+      go false z t = absurd (true≢false t)

@@ -1,42 +1,85 @@
 // Write.
 ghost use mathlib.Core.Path.{_≡_};
-ghost use Prim.Native.Nat.{ℕ, _+_, _*_, _<_, _≤_};
+ghost use mathlib.Core.Bool.{false};
+ghost use Prim.Native.Nat.{_*_, _≤_};
 ghost use lib.ListN.{length};
+ghost use Rattle.conditions.specs.Stores.{Standard};
 ghost use Rattle.conditions.specs.Contract.{Sound};
 ghost use Rattle.model.specs.Rows.{firstRow, writeRows};
-ghost use Rattle.model.specs.Step.{place, begin, write};
+ghost use Rattle.model.specs.Step.{begin, write, isIdle};
 ghost use Rattle.model.specs.Frames.{Valid};
-ghost use Rattle.rows.specs.Contract.{recordOf, stateOf, unlessRefused, Answers, AnswersOn};
+ghost use Rattle.rows.specs.Contract.{recordOf, stateOf, argumentRows, Answers, AnswersOn};
+ghost use Rattle.write_access.specs.Contract.{writeAnswer, testedAs};
 use access::ControlNode;
 use access::ControlPair;
 use conditions::Table;
-use rows::Done;
 use rows::Fields;
 
-// The row that refuses a write to a valid memory, or 0.
-fn write_row(
-    r: Fields,
-    words: &[u32],
-    list: &[u32],
-    enable: &[u32],
-    address: &[u32],
-    data: &[u32],
-) -> u32
-    requires { ⌜ Valid (stateOf r (now words) (now list)) × (length (now enable) ≡ 2) × (length (now address) ≡ 2 * r .n) × (length (now «data») ≡ 2 * r .w) ⌝ }
-    ensures { λ x. ⌜ x ≡ firstRow (writeRows (recordOf r) (now (words .entry)) (now (list .entry)) (now (enable .entry)) (now (address .entry)) (now («data» .entry))) ⌝ }
+// The fields after a write, the number by which it is refused, or 0, and whether it is idle, where it is not refused.
+pub struct WriteDone {
+    pub after: Fields,
+    pub row: u32,
+    pub idle: bool,
+}
+
+// A write to a valid memory by rows 5 and 6: refused, or idle, or still to be entered.
+fn tested(r: Fields, words: &[u32], enable: &[u32], address: &[u32], data: &[u32]) -> WriteDone
+    requires { ⌜ Standard (now words) (r .count) × (r .n ≤ 8) × (r .w ≤ 16) × (length (now enable) ≡ 2) × (length (now address) ≡ 2 * r .n) × (length (now «data») ≡ 2 * r .w) ⌝ }
+    ensures { λ x. ⌜ x ≡ testedAs r (firstRow (argumentRows (recordOf r) (now (words .entry)) (now (enable .entry)) 1 (now (address .entry)) (now («data» .entry)) (r .w))) (isIdle (now (enable .entry))) ⌝ }
 {
     let k = r.argument_row(words, enable, 1, address, data, r.w as usize);
-    if k != 0 {
-        return k;
-    }
-    if r.entries < r.list_capacity(list) {
-        0
-    } else {
-        8
+    WriteDone {
+        after: r,
+        row: k,
+        idle: (k == 0) & (enable[0] == 0),
     }
 }
 
-// A write to a valid memory: rows 5 to 9, and the entry.
+// A write that no row refuses and that is not idle: its conditions, rows 9 and 8, and its entry.
+fn enter(
+    r: Fields,
+    words: &mut [u32],
+    list: &mut [u32],
+    table: &mut Table,
+    enable: &[u32],
+    address: &[u32],
+    data: &[u32],
+) -> WriteDone
+    requires { ⌜ Sound (now words) (now table) (begin (recordOf r)) × (firstRow (writeRows (recordOf r) (now words) (now list) (now enable) (now address) (now «data»)) ≡ 0) × (isIdle (now enable) ≡ false) ⌝ }
+    ensures { λ x. ⌜ AnswersOn (write (now (enable .entry)) (now (address .entry)) (now («data» .entry))) (stateOf r (now (words .entry)) (now (list .entry))) (stateOf (x .after) (now (words .exit)) (now (list .exit))) (writeAnswer (x .row) (x .idle) (r .entries)) (now (table .exit)) ⌝ }
+{
+    let c = ControlPair {
+        h: ControlNode(enable[0]),
+        l: ControlNode(enable[1]),
+    };
+    let n = r.n as usize;
+    let m = access::write_marks(words, table, r.begin(), n, c, address);
+    if rows::clear_where(words, r.count, m.store.full) {
+        return WriteDone {
+            after: r,
+            row: 9,
+            idle: false,
+        };
+    }
+    if rows::clear_where(words, r.count, !r.has_space(list)) {
+        return WriteDone {
+            after: r,
+            row: 8,
+            idle: false,
+        };
+    }
+    r.append_entry(list, m, address, data);
+    let mut after = r;
+    after.count = m.store.count;
+    after.entries = r.entries + 1;
+    WriteDone {
+        after,
+        row: 0,
+        idle: false,
+    }
+}
+
+// A write to a valid memory: rows 5 and 6; then it is idle, or entered.
 pub fn write_on(
     r: Fields,
     words: &mut [u32],
@@ -45,31 +88,18 @@ pub fn write_on(
     enable: &[u32],
     address: &[u32],
     data: &[u32],
-) -> Done
+) -> WriteDone
     requires { ⌜ Valid (stateOf r (now words) (now list)) × Sound (now words) (now table) (begin (recordOf r)) × (length (now enable) ≡ 2) × (length (now address) ≡ 2 * r .n) × (length (now «data») ≡ 2 * r .w) ⌝ }
-    ensures { λ x. ⌜ AnswersOn (write (now (enable .entry)) (now (address .entry)) (now («data» .entry))) (stateOf r (now (words .entry)) (now (list .entry))) (stateOf (x .after) (now (words .exit)) (now (list .exit))) (unlessRefused (x .row) (place (r .entries))) (now (table .exit)) ⌝ }
+    ensures { λ x. ⌜ AnswersOn (write (now (enable .entry)) (now (address .entry)) (now («data» .entry))) (stateOf r (now (words .entry)) (now (list .entry))) (stateOf (x .after) (now (words .exit)) (now (list .exit))) (writeAnswer (x .row) (x .idle) (r .entries)) (now (table .exit)) ⌝ }
 {
-    let k = write_row(r, words, list, enable, address, data);
-    if k != 0 {
-        return Done { after: r, row: k };
+    let d = tested(r, words, enable, address, data);
+    if (d.row != 0) | d.idle {
+        return d;
     }
-    let c = ControlPair {
-        h: ControlNode(enable[0]),
-        l: ControlNode(enable[1]),
-    };
-    let n = r.n as usize;
-    let m = access::write_marks(words, table, r.begin(), n, c, address);
-    if rows::clear_where(words, r.count, m.store.full) {
-        return Done { after: r, row: 9 };
-    }
-    r.append_entry(list, m, address, data);
-    let mut after = r;
-    after.count = m.store.count;
-    after.entries = r.entries + 1;
-    Done { after, row: 0 }
+    enter(r, words, list, table, enable, address, data)
 }
 
-// Write(c, a, d).
+// Write(c, a, d). An idle write makes no table.
 pub fn write(
     r: Fields,
     words: &mut [u32],
@@ -77,18 +107,30 @@ pub fn write(
     enable: &[u32],
     address: &[u32],
     data: &[u32],
-) -> Done
-    ensures { λ x. ⌜ Answers (write (now (enable .entry)) (now (address .entry)) (now («data» .entry))) (stateOf r (now (words .entry)) (now (list .entry))) (stateOf (x .after) (now (words .exit)) (now (list .exit))) (unlessRefused (x .row) (place (r .entries))) ⌝ }
+) -> WriteDone
+    ensures { λ x. ⌜ Answers (write (now (enable .entry)) (now (address .entry)) (now («data» .entry))) (stateOf r (now (words .entry)) (now (list .entry))) (stateOf (x .after) (now (words .exit)) (now (list .exit))) (writeAnswer (x .row) (x .idle) (r .entries)) ⌝ }
 {
     let k = r.memory_row(words, list);
     if k != 0 {
-        return Done { after: r, row: k };
+        return WriteDone {
+            after: r,
+            row: k,
+            idle: false,
+        };
     }
     let n = r.n as usize;
     let w = r.w as usize;
     if !((enable.len() == 2) & (address.len() == 2 * n) & (data.len() == 2 * w)) {
-        return Done { after: r, row: 4 };
+        return WriteDone {
+            after: r,
+            row: 4,
+            idle: false,
+        };
+    }
+    let d = tested(r, words, enable, address, data);
+    if (d.row != 0) | d.idle {
+        return d;
     }
     let mut table: Table = [0; 32768];
-    write_on(r, words, list, &mut table, enable, address, data)
+    enter(r, words, list, &mut table, enable, address, data)
 }

@@ -1,7 +1,7 @@
 //! The paper's example by the calls: 1 is written to location 1 or 0, as variable 8 says; then location
 //! 0 is read, and checked against 1.
 
-use mangerday::{Ports, Record, Refused};
+use mangerday::{Ports, Record, Refused, Written};
 
 /// A condition's text: 0, 1 or (v low high).
 fn text(nodes: &[u32], node: u32) -> String {
@@ -18,8 +18,10 @@ fn main() -> Result<(), Refused> {
     let a = memory.variable(&mut nodes, 8)?;
     let not_a = memory.ite(&mut nodes, a, 0, 1)?;
 
-    let place = memory.write(&mut nodes, &mut list, &one, &[a, not_a], &one)?;
-    println!("write {place}");
+    match memory.write(&mut nodes, &mut list, &one, &[a, not_a], &one)? {
+        Written::Entered(place) => println!("write {place}"),
+        Written::Idle => println!("write idle"),
+    }
     memory.read(&mut nodes, &list, &mut ports, 0, &one, &zero, &mut word)?;
     println!("read {}:{}", text(&nodes, word[0]), text(&nodes, word[1]));
     memory.check(&mut nodes, &list, 1, &zero, &one)?;

@@ -12,15 +12,18 @@
 //! list, ports and answer words as they were.
 //!
 //! ```
-//! use mangerday::{Ports, Record};
+//! use mangerday::{Ports, Record, Written};
 //!
 //! let (mut nodes, mut list, mut ports) = ([0; 96], [0; 24], Ports::default());
 //! let mut memory = Record::fresh(1, 1, &mut nodes, &mut ports)?;
 //! let a = memory.variable(&mut nodes, 8)?;
 //! let not_a = memory.ite(&mut nodes, a, 0, 1)?;
 //! // 1 is stored at location 1 where variable 8 is 1, and at location 0 where it is 0.
-//! let place = memory.write(&mut nodes, &mut list, &[1, 0], &[a, not_a], &[1, 0])?;
-//! assert_eq!(place, 0);
+//! let written = memory.write(&mut nodes, &mut list, &[1, 0], &[a, not_a], &[1, 0])?;
+//! assert_eq!(written, Written::Entered(0));
+//! // An enable of 0 leaves everything as it was.
+//! let written = memory.write(&mut nodes, &mut list, &[0, 1], &[a, not_a], &[0, 1])?;
+//! assert_eq!(written, Written::Idle);
 //! // Location 0 may hold 1 in any case, and 0 where variable 8 is 1.
 //! let mut word = [0; 2];
 //! memory.read(&mut nodes, &list, &mut ports, 0, &[1, 0], &[0, 1], &mut word)?;
@@ -85,6 +88,15 @@ pub struct Refused(pub u32);
 pub struct CaseRefused {
     pub row: u32,
     pub after: u64,
+}
+
+/// What became of an accepted write.
+#[derive(Clone, Copy, Debug, PartialEq, Eq, Hash)]
+pub enum Written {
+    /// Its entry has this place, counted from 0.
+    Entered(u32),
+    /// Its enable is 0 under every assignment: nothing was changed.
+    Idle,
 }
 
 /// What became of an accepted assert.
@@ -157,7 +169,8 @@ impl Record {
         answer(row, node)
     }
 
-    /// Write: appends an entry and answers its place, counted from 0. Meets 1, 2, 3, 4, 5, 6, 8, 9.
+    /// Write: appends an entry, unless its enable is 0 under every assignment. Meets 1, 2, 3, 4, 5, 6, then,
+    /// if it is not idle, 9, 8.
     pub fn write(
         &mut self,
         nodes: &mut [u32],
@@ -165,7 +178,7 @@ impl Record {
         enable: &[u32],
         address: &[u32],
         data: &[u32],
-    ) -> Result<u32, Refused> {
+    ) -> Result<Written, Refused> {
         let mut place = 0;
         let row = unsafe {
             raw::md_write(
@@ -183,7 +196,7 @@ impl Record {
                 &mut place,
             )
         };
-        answer(row, place)
+        answer(row, if place == raw::MD_IDLE { Written::Idle } else { Written::Entered(place) })
     }
 
     /// Read by a port: fills the 2w words of `word`, each bit's h before its l, with the word at the

@@ -2,6 +2,9 @@
 
 use crate::{Ports, Record};
 
+/// What `md_write` answers in the place of an idle write.
+pub const MD_IDLE: u32 = u32::MAX;
+
 extern "C" {
     pub fn md_fresh(
         record: *mut Record,

@@ -2,7 +2,7 @@
 //! and every word of every buffer, as the second program found them. `tests/README.md` and
 //! `tools/storedcases.py` say how the inputs are laid out.
 
-use mangerday::{case, Asserted, Ports, Record, Refused};
+use mangerday::{case, raw, Asserted, Ports, Record, Refused, Written};
 use std::fmt::Write;
 use std::{fs, thread};
 
@@ -43,6 +43,14 @@ fn number(answer: Result<u32, Refused>) -> (u32, u32) {
     }
 }
 
+/// The out-word of a write in C.
+fn place(done: Written) -> u32 {
+    match done {
+        Written::Entered(place) => place,
+        Written::Idle => raw::MD_IDLE,
+    }
+}
+
 impl Buffers {
     fn put(&mut self, [buffer, place, many, stride, value, step]: [u32; 6]) {
         let words = self.words.get_mut(buffer as usize).map_or(&mut self.ports.0[..], |words| &mut words[..]);
@@ -69,7 +77,7 @@ impl Buffers {
         }
         let (list, address, data) = (&mut list[..a as usize], &address[..c as usize], &mut data[..d as usize]);
         number(match kind {
-            1 => record.write(nodes, list, &control[..b as usize], address, data),
+            1 => record.write(nodes, list, &control[..b as usize], address, data).map(place),
             READ => record.read(nodes, list, ports, port, &control[..b as usize], address, data).map(|()| OUT),
             3 => record.assert(nodes, list, b, address, data).map(|done| u32::from(done == Asserted::Entered)),
             _ => record.check(nodes, list, b, address, data).map(|()| OUT),

@@ -60,6 +60,15 @@ put-write-requires c κs = search needs
 printed-requires : tie.Need-printed-requires
 printed-requires c κs = search needs
 
+enum-told : tie.Need-enum-told
+enum-told c = search needs
+
+put-idle-requires : tie.Need-put-idle-requires
+put-idle-requires c κs = search needs
+
+printed-requires-2 : tie.Need-printed-requires-2
+printed-requires-2 c κs = search needs
+
 enum-known-answer-2 : tie.Need-enum-known-answer-2
 enum-known-answer-2 c = search needs
 
@@ -82,9 +91,22 @@ same-length-4 c = search needs
 same-length-5 : tie.Need-same-length-5
 same-length-5 c = search needs
 
+same-length-6 : tie.Need-same-length-6
+same-length-6 c = search needs
+
 returns-2 : tie.Need-returns-2
 unfolding callOf
-returns-2 c = λ ps. rw (← c .before .before .before .before .before .before .before .before .before .before .before .before .before .before .before .data-end .ensures, ← c .before .before .before .before .before .before .before .before .before .before .before .before .before .before .before .before .address-end .ensures) (step-stop _ (c .before .before .before .before .before .before .before .before .before .before .before .before .before .before .before .before .before .before .before .before .before .before .args .c .at) (out (now (c .before .before .before .before .before .before .before .before .before .before .before .before .before .before .before .before .before .before .before .before .before .before .args .buf)) (c .before .before .before .before .before .before .before .before .before .before .before .before .before .before .before .before .before .before .before .before .before .before .args .c .text)) (any-as writeAnswer (c .before .answer2 .given .1) (c .before .before .before .before .before .before .before .before .write-on .ensures) ps))
+returns-2 c = λ ps. rw (← c .before .before .before .before .before .before .before .before .before .before .before .before .before .before .before .before .before .before .before .data-end .ensures, ← c .before .before .before .before .before .before .before .before .before .before .before .before .before .before .before .before .before .before .before .before .address-end .ensures) (step-on _ (valid-ported (c .before .before .before .before .before .before .before .before .before .before .before .before .before .before .before .before .before .before .before .before .before .before .before .before .before .before .args .c .memory) (now (c .before .before .before .before .before .before .before .before .before .before .before .before .before .before .before .before .before .before .before .before .before .before .before .before .before .before .args .words)) (now (c .before .before .before .before .before .before .before .before .before .before .before .before .before .before .before .before .before .before .before .before .before .before .before .before .before .before .args .list)) ps (c .before .before .before .before .before .before .before .before .before .before .before .before .before .before .before .before .before .before .before .before .before .before .before .before .before .before .pre .0 .valid)) (any-as writeAnswer (c .before .before .before .before .before .enum-told .given .1) (c .before .before .before .before .before .before .before .before .before .before .before .before .write-on .ensures) ps) (c .before .before .before .before .before .before .before .before .before .before .before .before .before .before .before .before .before .before .before .before .before .before .before .before .before .before .args .c .at) (out (now (c .before .before .before .before .before .before .before .before .before .before .before .before .before .before .before .before .before .before .before .before .before .before .before .before .before .before .args .buf)) (c .before .before .before .before .before .before .before .before .before .before .before .before .before .before .before .before .before .before .before .before .before .before .before .before .before .before .args .c .text)) refl (c .before .before .before .put-idle .ensures) (c .printed2 .ensures))
+
+same-length-7 : tie.Need-same-length-7
+same-length-7 c = search needs
+
+same-length-8 : tie.Need-same-length-8
+same-length-8 c = search needs
+
+returns-3 : tie.Need-returns-3
+unfolding callOf
+returns-3 c = λ ps. rw (← c .before .before .before .before .before .before .before .before .before .before .before .before .before .before .before .data-end .ensures, ← c .before .before .before .before .before .before .before .before .before .before .before .before .before .before .before .before .address-end .ensures) (step-stop _ (c .before .before .before .before .before .before .before .before .before .before .before .before .before .before .before .before .before .before .before .before .before .before .args .c .at) (out (now (c .before .before .before .before .before .before .before .before .before .before .before .before .before .before .before .before .before .before .before .before .before .before .args .buf)) (c .before .before .before .before .before .before .before .before .before .before .before .before .before .before .before .before .before .before .before .before .before .before .args .c .text)) (any-as writeAnswer (c .before .answer2 .given .1) (c .before .before .before .before .before .before .before .before .write-on .ensures) ps))
 
 pub do-write-spec : {M : Type 1} → statement M
 do-write-spec =
@@ -106,6 +128,9 @@ do-write-spec =
     enum-known-answer
     put-write-requires
     printed-requires
+    enum-told
+    put-idle-requires
+    printed-requires-2
     enum-known-answer-2
     same-length
     same-length-2
@@ -113,4 +138,8 @@ do-write-spec =
     returns
     same-length-4
     same-length-5
-    returns-2)
+    same-length-6
+    returns-2
+    same-length-7
+    same-length-8
+    returns-3)

@@ -10,7 +10,8 @@ use Rattle.model.specs.Rows.{writeRows}
 use Rattle.model.specs.Step.{write}
 use Rattle.model.proofs.FactLaws.{and3}
 use Rattle.rows.specs.Contract.{recordOf, stateOf}
-use Rattle.rows.proofs.CallLaws.{memory-turned, lengths-turned, memory-valid, valid-standard}
+use Rattle.rows.proofs.CallLaws.{memory-turned, lengths-turned, memory-valid, valid-few, valid-standard}
+use Rattle.write_access.proofs.WriteLaws.{write-row-is, tested-done, tested-left}
 use borrow.Author.Needs.{needs}
 use Rattle.write_access.proofs.write.Statement.{statement}
 use Rattle.write_access.proofs.write.Tie as tie
@@ -48,11 +49,13 @@ same-length-4 c = search needs
 returns-2 : tie.Need-returns-2
 returns-2 c = lengths-turned (write (now (c .before .before .before .before .before .before .before .before .before .before .before .before .args .enable)) (now (c .before .before .before .before .before .before .before .before .before .before .before .before .args .address)) (now (c .before .before .before .before .before .before .before .before .before .before .before .before .args .«data»))) (stateOf (c .before .before .before .before .before .before .before .before .before .before .before .before .args .r) (now (c .before .before .before .before .before .before .before .before .before .before .before .before .args .words)) (now (c .before .before .before .before .before .before .before .before .before .before .before .before .args .list))) ((eqb (length (now (c .before .before .before .before .before .before .before .before .before .before .before .before .args .enable))) 2) && (eqb (length (now (c .before .before .before .before .before .before .before .before .before .before .before .before .args .address))) (2 * c .before .before .before .before .before .before .before .before .before .before .before .before .args .r .n)) && (eqb (length (now (c .before .before .before .before .before .before .before .before .before .before .before .before .args .«data»))) (2 * c .before .before .before .before .before .before .before .before .before .before .before .before .args .r .w))) (drop 4 (writeRows (recordOf (c .before .before .before .before .before .before .before .before .before .before .before .before .args .r)) (now (c .before .before .before .before .before .before .before .before .before .before .before .before .args .words)) (now (c .before .before .before .before .before .before .before .before .before .before .before .before .args .list)) (now (c .before .before .before .before .before .before .before .before .before .before .before .before .args .enable)) (now (c .before .before .before .before .before .before .before .before .before .before .before .before .args .address)) (now (c .before .before .before .before .before .before .before .before .before .before .before .before .args .«data»)))) refl (memory-valid (stateOf (c .before .before .before .before .before .before .before .before .before .before .before .before .args .r) (now (c .before .before .before .before .before .before .before .before .before .before .before .before .args .words)) (now (c .before .before .before .before .before .before .before .before .before .before .before .before .args .list))) (c .before .before .before .before .memory-row .ensures) (c .before .before .before .if1 .left)) (not-true ((eqb (length (now (c .before .before .before .before .before .before .before .before .before .before .before .before .args .enable))) 2) && (eqb (length (now (c .before .before .before .before .before .before .before .before .before .before .before .before .args .address))) (2 * c .before .before .before .before .before .before .before .before .before .before .before .before .args .r .n)) && (eqb (length (now (c .before .before .before .before .before .before .before .before .before .before .before .before .args .«data»))) (2 * c .before .before .before .before .before .before .before .before .before .before .before .before .args .r .w))) (c .if2 .taken))
 
-write-on-requires : tie.Need-write-on-requires
-write-on-requires c κs =
-    let K = memory-valid (stateOf (c .before .before .before .before .before .before .before .before .before .before .before .before .before .before .before .args .r) (now (c .before .before .before .before .before .before .before .before .before .before .before .before .before .before .before .args .words)) (now (c .before .before .before .before .before .before .before .before .before .before .before .before .before .before .before .args .list))) (c .before .before .before .before .before .before .before .memory-row .ensures) (c .before .before .before .before .before .before .if1 .left) in
-    let L = and3 (eqb (length (now (c .before .before .before .before .before .before .before .before .before .before .before .before .before .before .before .args .enable))) 2) (eqb (length (now (c .before .before .before .before .before .before .before .before .before .before .before .before .before .before .before .args .address))) (2 * c .before .before .before .before .before .before .before .before .before .before .before .before .before .before .before .args .r .n)) (eqb (length (now (c .before .before .before .before .before .before .before .before .before .before .before .before .before .before .before .args .«data»))) (2 * c .before .before .before .before .before .before .before .before .before .before .before .before .before .before .before .args .r .w)) (not-false ((eqb (length (now (c .before .before .before .before .before .before .before .before .before .before .before .before .before .before .before .args .enable))) 2) && (eqb (length (now (c .before .before .before .before .before .before .before .before .before .before .before .before .before .before .before .args .address))) (2 * c .before .before .before .before .before .before .before .before .before .before .before .before .before .before .before .args .r .n)) && (eqb (length (now (c .before .before .before .before .before .before .before .before .before .before .before .before .before .before .before .args .«data»))) (2 * c .before .before .before .before .before .before .before .before .before .before .before .before .before .before .before .args .r .w))) (c .before .before .before .if2 .left)) in
-    (K, zeros-sound _ 32768 (valid-standard (stateOf (c .before .before .before .before .before .before .before .before .before .before .before .before .before .before .before .args .r) (now (c .before .before .before .before .before .before .before .before .before .before .before .before .before .before .before .args .words)) (now (c .before .before .before .before .before .before .before .before .before .before .before .before .before .before .before .args .list))) K), eqb-true _ _ (L .0), eqb-true _ _ (L .1), eqb-true _ _ (L .2))
+tested-requires : tie.Need-tested-requires
+tested-requires c κs =
+    let s = (stateOf (c .before .before .before .before .before .before .before .before .before .before .before .before .before .args .r) (now (c .before .before .before .before .before .before .before .before .before .before .before .before .before .args .words)) (now (c .before .before .before .before .before .before .before .before .before .before .before .before .before .args .list))) in
+    let K = memory-valid s (c .before .before .before .before .before .memory-row .ensures) (c .before .before .before .before .if1 .left) in
+    let L = and3 (eqb (length (now (c .before .before .before .before .before .before .before .before .before .before .before .before .before .args .enable))) 2) (eqb (length (now (c .before .before .before .before .before .before .before .before .before .before .before .before .before .args .address))) (2 * c .before .before .before .before .before .before .before .before .before .before .before .before .before .args .r .n)) (eqb (length (now (c .before .before .before .before .before .before .before .before .before .before .before .before .before .args .«data»))) (2 * c .before .before .before .before .before .before .before .before .before .before .before .before .before .args .r .w)) (not-false ((eqb (length (now (c .before .before .before .before .before .before .before .before .before .before .before .before .before .args .enable))) 2) && (eqb (length (now (c .before .before .before .before .before .before .before .before .before .before .before .before .before .args .address))) (2 * c .before .before .before .before .before .before .before .before .before .before .before .before .before .args .r .n)) && (eqb (length (now (c .before .before .before .before .before .before .before .before .before .before .before .before .before .args .«data»))) (2 * c .before .before .before .before .before .before .before .before .before .before .before .before .before .args .r .w))) (c .before .if2 .left)) in
+    let f = valid-few s K in
+    (valid-standard s K, f .0, f .1, eqb-true _ _ (L .0), eqb-true _ _ (L .1), eqb-true _ _ (L .2))
 
 same-length-5 : tie.Need-same-length-5
 same-length-5 c = search needs
@@ -61,7 +64,29 @@ same-length-6 : tie.Need-same-length-6
 same-length-6 c = search needs
 
 returns-3 : tie.Need-returns-3
-returns-3 c = search needs
+returns-3 c =
+    let s = (stateOf (c .before .before .before .before .before .before .before .before .before .before .before .before .before .before .before .before .before .args .r) (now (c .before .before .before .before .before .before .before .before .before .before .before .before .before .before .before .before .before .args .words)) (now (c .before .before .before .before .before .before .before .before .before .before .before .before .before .before .before .before .before .args .list))) in
+    let K = memory-valid s (c .before .before .before .before .before .before .before .before .before .memory-row .ensures) (c .before .before .before .before .before .before .before .before .if1 .left) in
+    let L = and3 (eqb (length (now (c .before .before .before .before .before .before .before .before .before .before .before .before .before .before .before .before .before .args .enable))) 2) (eqb (length (now (c .before .before .before .before .before .before .before .before .before .before .before .before .before .before .before .before .before .args .address))) (2 * c .before .before .before .before .before .before .before .before .before .before .before .before .before .before .before .before .before .args .r .n)) (eqb (length (now (c .before .before .before .before .before .before .before .before .before .before .before .before .before .before .before .before .before .args .«data»))) (2 * c .before .before .before .before .before .before .before .before .before .before .before .before .before .before .before .before .before .args .r .w)) (not-false ((eqb (length (now (c .before .before .before .before .before .before .before .before .before .before .before .before .before .before .before .before .before .args .enable))) 2) && (eqb (length (now (c .before .before .before .before .before .before .before .before .before .before .before .before .before .before .before .before .before .args .address))) (2 * c .before .before .before .before .before .before .before .before .before .before .before .before .before .before .before .before .before .args .r .n)) && (eqb (length (now (c .before .before .before .before .before .before .before .before .before .before .before .before .before .before .before .before .before .args .«data»))) (2 * c .before .before .before .before .before .before .before .before .before .before .before .before .before .before .before .before .before .args .r .w))) (c .before .before .before .before .before .if2 .left)) in
+    tested-done (c .before .before .before .before .before .before .before .before .before .before .before .before .before .before .before .before .before .args .r) (now (c .before .before .before .before .before .before .before .before .before .before .before .before .before .before .before .before .before .args .words)) (now (c .before .before .before .before .before .before .before .before .before .before .before .before .before .before .before .before .before .args .list)) (now (c .before .before .before .before .before .before .before .before .before .before .before .before .before .before .before .before .before .args .enable)) (now (c .before .before .before .before .before .before .before .before .before .before .before .before .before .before .before .before .before .args .address)) (now (c .before .before .before .before .before .before .before .before .before .before .before .before .before .before .before .before .before .args .«data»)) _ (c .before .before .before .tested .ensures) (write-row-is s (K) (now (c .before .before .before .before .before .before .before .before .before .before .before .before .before .before .before .before .before .args .enable)) (now (c .before .before .before .before .before .before .before .before .before .before .before .before .before .before .before .before .before .args .address)) (now (c .before .before .before .before .before .before .before .before .before .before .before .before .before .before .before .before .before .args .«data»)) (eqb-true _ _ (L .0)) (eqb-true _ _ (L .1)) (eqb-true _ _ (L .2))) (c .if3 .taken) (zeros-sound _ 32768 (valid-standard s K)) .is
+
+enter-requires : tie.Need-enter-requires
+enter-requires c κs =
+    let s = (stateOf (c .before .before .before .before .before .before .before .before .before .before .before .before .before .before .before .before .before .before .before .before .args .r) (now (c .before .before .before .before .before .before .before .before .before .before .before .before .before .before .before .before .before .before .before .before .args .words)) (now (c .before .before .before .before .before .before .before .before .before .before .before .before .before .before .before .before .before .before .before .before .args .list))) in
+    let K = memory-valid s (c .before .before .before .before .before .before .before .before .before .before .before .before .memory-row .ensures) (c .before .before .before .before .before .before .before .before .before .before .before .if1 .left) in
+    let L = and3 (eqb (length (now (c .before .before .before .before .before .before .before .before .before .before .before .before .before .before .before .before .before .before .before .before .args .enable))) 2) (eqb (length (now (c .before .before .before .before .before .before .before .before .before .before .before .before .before .before .before .before .before .before .before .before .args .address))) (2 * c .before .before .before .before .before .before .before .before .before .before .before .before .before .before .before .before .before .before .before .before .args .r .n)) (eqb (length (now (c .before .before .before .before .before .before .before .before .before .before .before .before .before .before .before .before .before .before .before .before .args .«data»))) (2 * c .before .before .before .before .before .before .before .before .before .before .before .before .before .before .before .before .before .before .before .before .args .r .w)) (not-false ((eqb (length (now (c .before .before .before .before .before .before .before .before .before .before .before .before .before .before .before .before .before .before .before .before .args .enable))) 2) && (eqb (length (now (c .before .before .before .before .before .before .before .before .before .before .before .before .before .before .before .before .before .before .before .before .args .address))) (2 * c .before .before .before .before .before .before .before .before .before .before .before .before .before .before .before .before .before .before .before .before .args .r .n)) && (eqb (length (now (c .before .before .before .before .before .before .before .before .before .before .before .before .before .before .before .before .before .before .before .before .args .«data»))) (2 * c .before .before .before .before .before .before .before .before .before .before .before .before .before .before .before .before .before .before .before .before .args .r .w))) (c .before .before .before .before .before .before .before .before .if2 .left)) in
+    let z = tested-left (c .before .before .before .before .before .before .before .before .before .before .before .before .before .before .before .before .before .before .before .before .args .r) (now (c .before .before .before .before .before .before .before .before .before .before .before .before .before .before .before .before .before .before .before .before .args .words)) (now (c .before .before .before .before .before .before .before .before .before .before .before .before .before .before .before .before .before .before .before .before .args .list)) (now (c .before .before .before .before .before .before .before .before .before .before .before .before .before .before .before .before .before .before .before .before .args .enable)) (now (c .before .before .before .before .before .before .before .before .before .before .before .before .before .before .before .before .before .before .before .before .args .address)) (now (c .before .before .before .before .before .before .before .before .before .before .before .before .before .before .before .before .before .before .before .before .args .«data»)) _ (c .before .before .before .before .before .before .tested .ensures) (write-row-is s (K) (now (c .before .before .before .before .before .before .before .before .before .before .before .before .before .before .before .before .before .before .before .before .args .enable)) (now (c .before .before .before .before .before .before .before .before .before .before .before .before .before .before .before .before .before .before .before .before .args .address)) (now (c .before .before .before .before .before .before .before .before .before .before .before .before .before .before .before .before .before .before .before .before .args .«data»)) (eqb-true _ _ (L .0)) (eqb-true _ _ (L .1)) (eqb-true _ _ (L .2))) (c .before .before .before .if3 .left) in
+    (zeros-sound _ 32768 (valid-standard s K), z .0, z .1)
+
+same-length-7 : tie.Need-same-length-7
+same-length-7 c = search needs
+
+same-length-8 : tie.Need-same-length-8
+same-length-8 c = search needs
+
+returns-4 : tie.Need-returns-4
+returns-4 c =
+    c .before .before .before .before .enter .ensures .is
 
 pub write-spec : {M : Type 1} → statement M
 write-spec =
@@ -78,7 +103,11 @@ write-spec =
     same-length-3
     same-length-4
     returns-2
-    write-on-requires
+    tested-requires
     same-length-5
     same-length-6
-    returns-3)
+    returns-3
+    enter-requires
+    same-length-7
+    same-length-8
+    returns-4)

@@ -1,0 +1,98 @@
+-- Writes that are idle, and asserts, none of which is.
+use mathlib.Core.Path.{_≡_, refl, sym, ap, _∙_}
+use mathlib.Core.Bool.{Bool, true, false, true≢false, false≢true}
+use mathlib.Core.List.{List}
+use Prim.Native.Nat.{ℕ, zero, suc}
+use native.Mathlib.Omega.{arith}
+use lib.Dec.{eqb}
+use lib.ListN.{getD}
+use Rattle.nodes.proofs.BoolLaws.{split}
+use Rattle.conditions.specs.Build.{Outcome}
+use Rattle.model.specs.Rows.{spaceFor}
+use Rattle.model.specs.Step.{State, write, read, assert, check, evaluate, variable, ite, Call, access, nodeCall, Given, place, idle, filled, entered, kept, accepted, valued, node, Answer, refused, done, Result, refusal, Finish, full, short, gives, closed, unlessFull, assertFirst, enter, isIdle, finishWrite, finishAccess, finishNode, finish, turnedDownBy, step}
+use Rattle.model.specs.Frames.{isWrite, IdleLeaves}
+use Rattle.model.specs.Table.{WriteFacts, NeverOne, MayBeOne, IdleExactly}
+use Rattle.model.specs.Meanings.{KeptWhereNever, EnteredWhere}
+use Rattle.model.proofs.TerminalLaws.{node-0-alone, somewhere-true, idle-zero, other-not-zero}
+use Rattle.model.proofs.FactLaws.{write-facts}
+use Rattle.model.proofs.StepLaws.{isLeftOut}
+use Rattle.model.proofs.Demand2.{acts, idle-or-entered, kept-or-entered, entered-where}
+
+-- the test of a write that no row refuses tells whether its enable is 0 under every assignment, or may be 1
+module _ {s : State} {c a d : List ℕ} (F : WriteFacts s c a d) where
+  pub idle-never : isIdle c ≡ true → NeverOne s c
+  idle-never e = node-0-alone (F .memory .standard) (getD c 0 0) (F .enable .names 0 (omega arith) .below) .0 (idle-zero c e)
+
+  pub not-idle-may : isIdle c ≡ false → MayBeOne s c
+  not-idle-may e = somewhere-true (F .memory .standard) (getD c 0 0) (F .enable .names 0 (omega arith) .below) (other-not-zero c e)
+
+pub idle-exactly : IdleExactly
+unfolding IdleExactly
+idle-exactly c a d s n =
+    let F = write-facts s c a d (acts (access (write c a d)) s n .0) in
+    idle-or-entered s c a d n
+    (λ i e.
+    let never = idle-never F i in
+    record { idles = (λ q. never, λ q. ap (λ (x : Result). x .answer) e); enters = (λ q. absurd (true≢false (ap isLeftOut (rw e at q))), λ m. absurd (true≢false (sym (m .2) ∙ never (m .0) (m .1)))) })
+    (λ i e.
+    let may = not-idle-may F i in
+    record { idles = (λ q. absurd (false≢true (ap isLeftOut (rw e at q))), λ never. absurd (true≢false (sym (may .2) ∙ never (may .0) (may .1)))); enters = (λ q. may, λ q. ap (λ (x : Result). x .answer) e) })
+
+-- what a call comes to, where it gives idle
+abbrev givesIdle : Given → Bool
+givesIdle (place k) = false
+givesIdle idle = true
+givesIdle (filled r) = false
+givesIdle entered = false
+givesIdle kept = false
+givesIdle accepted = false
+givesIdle (valued b) = false
+givesIdle (node n) = false
+
+abbrev answersIdle : Answer → Bool
+answersIdle (refused k) = false
+answersIdle (done g) = givesIdle g
+
+abbrev Idles : Call → State → Finish → Type 0
+Idles c s (full t) = Unit {0}
+Idles c s short = Unit {0}
+Idles c s (gives g t) = givesIdle g ≡ true → (isWrite c ≡ true) × (t ≡ s)
+
+full-idles : {A : Type 0} (c : Call) (s : State) (x : Outcome A) (f : A → List ℕ → ℕ → Finish) → Idles c s (f (x .answer) (x .words) (x .store .count)) → Idles c s (unlessFull x f)
+unfolding unlessFull
+full-idles c s x f h = split (x .store .full) (λ t. rw t tt) (λ t. rw t h)
+
+finish-idles : (c : Call) (s : State) → Idles c s (finish c s)
+unfolding finishAccess finishWrite finishNode enter
+finish-idles (access (write c a d)) s =
+    split (isIdle c) (λ i. rw i (λ z. (refl, refl)))
+    (λ i. rw i (full-idles (access (write c a d)) s _ _ (split (spaceFor (s .rec) (s .words) 1 (s .list)) (λ r. rw r (λ z. absurd (false≢true z))) (λ r. rw r tt))))
+finish-idles (access (read p e a out)) s = full-idles (access (read p e a out)) s _ _ (λ z. absurd (false≢true z))
+finish-idles (access (assert b a d)) s =
+    let x = assertFirst b a d s in
+    full-idles (access (assert b a d)) s x (enter s b a d)
+    (split (eqb (x .answer .keep) 1) (λ e. rw e (λ z. absurd (false≢true z)))
+    (λ e. split (spaceFor (s .rec) (s .words) 1 (s .list)) (λ r. rw (e, r) (full-idles (access (assert b a d)) s _ _ (λ z. absurd (false≢true z)))) (λ r. rw (e, r) tt)))
+finish-idles (access (check b a d)) s = full-idles (access (check b a d)) s _ _ (λ z. absurd (false≢true z))
+finish-idles (nodeCall (evaluate f a)) s = λ z. absurd (false≢true z)
+finish-idles (nodeCall (variable v)) s = full-idles (nodeCall (variable v)) s _ _ (λ z. absurd (false≢true z))
+finish-idles (nodeCall (ite f g h)) s = full-idles (nodeCall (ite f g h)) s _ _ (λ z. absurd (false≢true z))
+
+pub idle-leaves : IdleLeaves
+unfolding IdleLeaves step closed
+idle-leaves c s e = go (refusal c s) e
+  where
+    ended : (x : Finish) → Idles c s x → answersIdle (closed s x .answer) ≡ true → (isWrite c ≡ true) × (closed s x .after ≡ s)
+    ended (full t) h e = absurd (false≢true e)
+    ended short h e = absurd (false≢true e)
+    ended (gives g t) h e = h e
+
+    go : (k : ℕ) → turnedDownBy k s (closed s (finish c s)) .answer ≡ done idle → (isWrite c ≡ true) × (turnedDownBy k s (closed s (finish c s)) .after ≡ s)
+    go zero e = ended (finish c s) (finish-idles c s) (ap answersIdle e)
+    go (suc k) e = absurd (false≢true (ap answersIdle e))
+
+pub kept-where-never : KeptWhereNever
+unfolding KeptWhereNever EnteredWhere
+kept-where-never s b a d n never =
+    kept-or-entered s b a d n (λ e. ap (λ (x : Result). x .answer) e)
+    (λ t f e. let m = entered-where s b a d (ap (λ (x : Result). x .answer) e) in absurd (true≢false (rw (never (m .0) (m .1)) at (m .2))))
