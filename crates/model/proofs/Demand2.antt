@@ -19,8 +19,7 @@ use Rattle.conditions.proofs.Promises.{ite-builds, variable-builds}
 use Rattle.model.specs.Pairs.{Pair, admit}
 use Rattle.model.specs.Record.{Record}
 use Rattle.model.specs.Access.{Marks, Write, AssertBuilt}
-use Rattle.model.specs.Rows.{spaceFor}
-use Rattle.model.specs.Step.{State, write, read, assert, check, evaluate, variable, ite, Call, access, nodeCall, place, idle, filled, entered, kept, accepted, valued, node, done, isRefused, Result, refusal, Finish, full, gives, closed, unlessFull, begin, grown, withEntry, withAssertCondition, assertFirst, enter, isIdle, finishWrite, finishAccess, finishNode, finish, turnedDownBy, step, writeBuilt}
+use Rattle.model.specs.Step.{State, write, read, assert, check, evaluate, variable, ite, Call, access, nodeCall, place, idle, filled, entered, kept, accepted, valued, node, done, isRefused, Result, refusal, Finish, full, gives, closed, unlessFull, begin, grown, withEntry, withAssertCondition, assertFirst, enter, isIdle, finishAccess, finishNode, finish, turnedDownBy, step, writeBuilt}
 use Rattle.model.specs.Published.{answer, assertHolds, checkHolds, keeps, control}
 use Rattle.model.specs.Claims.{pairAt}
 use Rattle.model.specs.Meanings.{entryValues, addressArgument, wordArgument, Enters, Demand2, EnteredWhere, portValue}
@@ -29,6 +28,7 @@ use Rattle.model.proofs.PairLaws.{T→eq, eq→T}
 use Rattle.model.proofs.MeansLaws.{Means, up, near-self}
 use Rattle.model.proofs.AccessLaws.{AssertBuiltMean}
 use Rattle.model.proofs.TerminalLaws.{somewhere-false, idle-off}
+use Rattle.model.proofs.FinishLaws.{of-write, of-assert}
 use Rattle.model.proofs.FactLaws.{write-facts, read-facts, check-facts, assert-facts, variable-facts, ite-facts}
 use Rattle.model.proofs.StepLaws.{isLeftOut, Holds, Follows, step-follows, free-store, pair-is, assert-builds, enter-builds, PortsMean, port-is}
 use Rattle.model.proofs.EntryLaws.{held, holds-values, holds-enters, holds-stays}
@@ -58,12 +58,10 @@ module _ (s : State) (c a d : List ℕ) (n : isRefused (step (access (write c a 
   pub idle-or-entered : {C : Type 0} → (isIdle c ≡ true → step (access (write c a d)) s ≡ record { answer = done idle; after = s } → C)
       → (isIdle c ≡ false → step (access (write c a d)) s ≡ record { answer = done (place (s .rec .entries)); after = withEntry (grown s (built .words) (built .store .count)) (built .answer) a d } → C)
       → C
-  unfolding finishAccess finishWrite closed
-  idle-or-entered f g =
-      let e = acts (access (write c a d)) s n .1 in
-      split (isIdle c) (λ i. f i (rw i at e))
-      (λ i. let z = free s built _ _ (rw i at e) n .1 in
-      split (spaceFor (s .rec) (s .words) 1 (s .list)) (λ u. g i (rw u at z)) (λ u. absurd (true≢false (rw (z, u) at n))))
+  unfolding finishAccess closed
+  idle-or-entered {C} f g =
+      of-write (λ (z : Finish). step (access (write c a d)) s ≡ closed s z → C) c a d s f (λ i x e. absurd (true≢false (rw e at n))) (λ i x r. g i) (λ i x r e. absurd (true≢false (rw e at n)))
+      (acts (access (write c a d)) s n .1)
 
 -- such an assert
 module _ (s : State) (b : ℕ) (a d : List ℕ) (n : isRefused (step (access (assert b a d)) s .answer) ≡ false) where
@@ -83,13 +81,10 @@ module _ (s : State) (b : ℕ) (a d : List ℕ) (n : isRefused (step (access (as
       → (eqb (x .answer .keep) 1 ≡ false → y .store .full ≡ false
       → step (access (assert b a d)) s ≡ record { answer = done entered; after = withEntry (withAssertCondition (grown s (y .words) (y .store .count)) (x .answer .condition)) (y .answer) a d } → C)
       → C
-  unfolding enter closed
-  kept-or-entered f g =
-      let e = asserts .1 in
-      split (eqb (x .answer .keep) 1) (λ t. f (rw t at e))
-      (λ t. split (spaceFor (s .rec) (s .words) 1 (s .list))
-      (λ u. let z = free s y _ _ (rw (t, u) at e) n in g t (z .0) (z .1))
-      (λ u. absurd (true≢false (rw (e, t, u) at n))))
+  unfolding closed
+  kept-or-entered {C} f g =
+      of-assert (λ (z : Finish). step (access (assert b a d)) s ≡ closed s z → C) b a d s (λ x e. absurd (true≢false (rw e at n))) (λ x k. f) (λ x k r e. absurd (true≢false (rw e at n))) (λ x k r y e. absurd (true≢false (rw e at n)))
+      (λ x k r y. g k y) (acts (access (assert b a d)) s n .1)
 
 -- two pairs that admit the same are one
 same-admit : (p q : Pair) → ((b : Bool) → T (admit p b) ↔ T (admit q b)) → p ≡ q

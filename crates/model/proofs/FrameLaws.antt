@@ -4,10 +4,10 @@ use mathlib.Core.Bool.{Bool, true, false, cond, not, _&&_, _||_, true≢false, o
 use mathlib.Core.List.{List, [], _∷_}
 use Prim.Native.Nat.{ℕ, zero, suc, _+_, _*_, _<_, _≤_}
 use native.Mathlib.Omega.{arith}
-use lib.Dec.{eqb, leb}
+use lib.Dec.{leb}
 use lib.ListN.{length, getD, length-replicate, getD-replicate}
 use borrow.Author.Tests.{leb-true, not-true}
-use Rattle.nodes.proofs.BoolLaws.{split, and-both}
+use Rattle.nodes.proofs.BoolLaws.{and-both}
 use Rattle.conditions.specs.Stores.{Standard, withTerminals, Agree, Extends, clearOf}
 use Rattle.conditions.specs.declared.Store.{Store}
 use Rattle.conditions.specs.Build.{Outcome}
@@ -17,13 +17,14 @@ use Rattle.conditions.specs.Meaning.{Meaning, Builds}
 use Rattle.conditions.proofs.Promises.{from-1, extends-refl, extends-trans, standard-is, is-standard, terminals-standard, clear-standard, clear-below, ite-builds, variable-builds, is-user}
 use Rattle.model.specs.Record.{listCapacity, heldWord, freshPorts}
 use Rattle.model.specs.Access.{Write, Read, Check}
-use Rattle.model.specs.Rows.{Row, firstRow, users, row1, spaceFor, writeRows, readRows, assertRows, checkRows, evaluateRows, variableRows, iteRows, portsRow}
-use Rattle.model.specs.Step.{State, withWords, write, read, assert, check, evaluate, variable, ite, Call, access, nodeCall, Given, place, idle, filled, entered, kept, accepted, node, Answer, refused, done, isRefused, Filling, fills, fillsNone, filling, Result, refusal, turnedDown, Finish, full, short, gives, closed, unlessFull, begin, grown, withEntry, withAssertCondition, assertFirst, enter, isIdle, finishWrite, finishAccess, finishNode, finish, turnedDownBy, step, run, fresh, freshRows, freshUnless, freshRecord, withHeld, writeBuilt}
+use Rattle.model.specs.Rows.{Row, firstRow, users, row1, writeRows, readRows, assertRows, checkRows, evaluateRows, variableRows, iteRows, portsRow}
+use Rattle.model.specs.Step.{State, withWords, write, read, assert, check, evaluate, variable, ite, Call, access, nodeCall, Given, idle, filled, entered, kept, accepted, node, refused, done, isRefused, Filling, fills, fillsNone, filling, Result, refusal, turnedDown, Finish, full, short, gives, closed, unlessFull, begin, grown, withEntry, withAssertCondition, assertFirst, finishAccess, finishNode, finish, turnedDownBy, step, run, fresh, freshRows, freshUnless, freshRecord, withHeld}
 use Rattle.model.specs.Claims.{pairs}
 use Rattle.model.specs.Frames.{clears, wordsAfter, RefusalLeaves, RefusalNumber, Extended, SuccessLeaves, Valid, StaysValid, NoRow123, FreshLeaves, FreshValid, FreshNoRow123, writeOrAssert, acceptedWrites, CountAtMost, numbers, portsAfter, PortsLeft, PortsValid, PortsStayValid, freshState}
 use Rattle.model.proofs.MeansLaws.{Means, user-means}
 use Rattle.model.proofs.AccessLaws.{write-means}
 use Rattle.model.proofs.FactLaws.{row1-tells, names, users-tell, space-room, write-facts, read-facts, check-facts, assert-facts, variable-facts, ite-facts, fresh-told}
+use Rattle.model.proofs.FinishLaws.{of-program, of-write, of-assert}
 use Rattle.model.proofs.RowLaws.{length-pairs, names-halves}
 use Rattle.model.proofs.ProgramLaws.{read-program, check-program, assert-program}
 use Rattle.model.proofs.ValidLaws.{User, user-stays, user-grows, withConditions, users-stay, conditions-valid, conditions-extended, entry-extended, no-entries, entry-valid, ports-users, users-ports, latched-valid}
@@ -132,9 +133,17 @@ module _ (c : Call) (s : State) where
       let z : clears (suc k) ≡ false = not-true _ (p .1) in
       rw z at (refused-leaves (suc k) (p .0) (λ H P. leb-true _ _ (rows-late c s H P k e)))
 
+  -- 9, where the program needs a node past capacity, and 8, where an entry is needed
+  full-leaves : (t : Store) → Leaves c s (closed s (full t))
+  unfolding closed
+  full-leaves t = refused-leaves 9 refl (λ H P. omega arith)
+
+  short-leaves : Leaves c s (closed s short)
+  unfolding closed
+  short-leaves = refused-leaves 8 refl (λ H P. omega arith)
+
   nine-leaves : {A : Type 0} (x : Outcome A) (k : A → List ℕ → ℕ → Finish) → (x .store .full ≡ false → Leaves c s (closed s (k (x .answer) (x .words) (x .store .count)))) → Leaves c s (closed s (unlessFull x k))
-  unfolding unlessFull closed
-  nine-leaves x k f = split (x .store .full) (λ e. rw e (refused-leaves 9 refl (λ H P. omega arith))) (λ e. rw e (f e))
+  nine-leaves x k f = of-program (λ (z : Finish). Leaves c s (closed s z)) x k (λ e. full-leaves (x .store)) f
 
   done-leaves : (g : Given) (t : State) → Extended s t → (Valid s → Valid t) → t .ports ≡ portsAfter c (done g) (s .ports) → (Valid s → PortsValid s → PortsValid t) → t .rec .entries ≤ s .rec .entries + writeOrAssert g → Leaves c s (closed s (gives g t))
   unfolding closed
@@ -144,10 +153,11 @@ module _ (c : Call) (s : State) where
     conditions-leave : (v u : ℕ) → (User s (s .rec .asserted) → isUser w n v ≡ true) → (User s (s .rec .checked) → isUser w n u ≡ true) → Leaves c s (closed s (gives g (withConditions s w n v u)))
     conditions-leave v u A C = done-leaves g (withConditions s w n v u) (conditions-extended s w n v u E) (conditions-valid s w n v u (user-grows E) S A C) still (λ H P. ports-stay s w n v u (user-grows E) P) (omega arith)
 
-    -- an entry's Write, and one entry more where the store is not full
+    -- one entry more, and what its Write built
     entry-leaves : writeOrAssert g ≡ 1 → (v : ℕ) → (User s (s .rec .asserted) → isUser w n v ≡ true) → (h l : ℕ) → isUser w n h ≡ true → isUser w n l ≡ true → (a d : List ℕ) → length a ≡ 2 * s .rec .n → length d ≡ 2 * s .rec .w
         → users (s .rec) (s .words) a ≡ true → users (s .rec) (s .words) d ≡ true → s .rec .entries < listCapacity (s .rec) (s .list)
-        → Leaves c s (closed s (unlessFull (Write (s .rec .n) h l a w (record { count = n; full = false })) (λ m w n. gives g (withEntry (withAssertCondition (grown s w n) v) m a d))))
+        → let x = Write (s .rec .n) h l a w (record { count = n; full = false }) in
+        Leaves c s (closed s (gives g (withEntry (withAssertCondition (grown s (x .words) (x .store .count)) v) (x .answer) a d)))
     unfolding listCapacity portsRow
     entry-leaves one v A h l uh ul a d na wd ua ud room =
         let r = withAssertCondition (grown s w n) v .rec in
@@ -157,22 +167,16 @@ module _ (c : Call) (s : State) where
         let F = extends-trans E (X .extends) in
         let m = x .store .count in
         let u = s .rec .checked in
-        nine-leaves x _
-        (λ e. done-leaves _ _ (entry-extended s (x .words) m v u F (x .answer) a d na wd room)
+        done-leaves _ _ (entry-extended s (x .words) m v u F (x .answer) a d na wd room)
         (λ H. entry-valid (withAssertCondition (grown s (x .words) m) v) (x .answer) a d na wd room (means-user (X .post .hard)) (means-user (X .post .soft)) (users-stay s (x .words) m v u (user-grows F) a ua) (users-stay s (x .words) m v u (user-grows F) d ud)
         (conditions-valid s (x .words) m v u (user-grows F) (X .standard) (λ z. user-grows (X .extends) v (A z)) (user-grows F u) H))
-        still (λ H P. let Q = ports-stay s (x .words) m v u (user-grows F) P in record { three = Q .three; long = Q .long }) (omega arith))
+        still (λ H P. let Q = ports-stay s (x .words) m v u (user-grows F) P in record { three = Q .three; long = Q .long }) (omega arith)
 
   -- a program that leaves nothing but its nodes and its answer
   grown-leaves : {A : Type 0} {P : List ℕ → Store → A → Type 0} {x : Outcome A} → Builds (s .words) (begin (s .rec)) P x → (k : A → Given) → ((a : A) → s .ports ≡ portsAfter c (done (k a)) (s .ports)) → Leaves c s (closed s (unlessFull x (λ a w n. gives (k a) (grown s w n))))
   grown-leaves {x = x} X k still =
       nine-leaves x (λ a w n. gives (k a) (grown s w n))
       (λ e. conditions-leave (k (x .answer)) (still (x .answer)) (x .words) (x .store .count) (X .extends) (X .standard) (s .rec .asserted) (s .rec .checked) (user-grows (X .extends) (s .rec .asserted)) (user-grows (X .extends) (s .rec .checked)))
-
-  -- 8, where an entry is needed
-  short-leaves : Leaves c s (closed s short)
-  unfolding closed
-  short-leaves = refused-leaves 8 refl (λ H P. omega arith)
 
   -- what answers, and leaves the state as it was
   same-leaves : (g : Given) → s .ports ≡ portsAfter c (done g) (s .ports) → Leaves c s (closed s (gives g s))
@@ -181,16 +185,15 @@ module _ (c : Call) (s : State) where
 
 -- a call that no row refuses
 finish-leaves : (c : Call) (s : State) → refusal c s ≡ 0 → Leaves c s (closed s (finish c s))
-unfolding finishAccess finishWrite finishNode enter
+unfolding finishAccess finishNode
 finish-leaves (access (write c a d)) s e =
     let F = write-facts s c a d e in
     let r = s .rec in
-    split (isIdle c) (λ i. rw i (same-leaves (access (write c a d)) s idle refl))
-    (λ i. split (spaceFor r (s .words) 1 (s .list))
-    (λ room. rw (i, room) (entry-leaves (access (write c a d)) s _ refl (s .words) (r .count) (extends-refl (s .words) (r .count)) (F .memory .standard) refl (r .asserted) (λ u. u)
+    of-write (λ (z : Finish). Leaves (access (write c a d)) s (closed s z)) c a d s (λ i. same-leaves (access (write c a d)) s idle refl) (λ i f. full-leaves (access (write c a d)) s _)
+    (λ i f room. entry-leaves (access (write c a d)) s _ refl (s .words) (r .count) (extends-refl (s .words) (r .count)) (F .memory .standard) refl (r .asserted) (λ u. u)
     (getD c 0 0) (getD c 1 0) (names r (s .words) _ .so (F .enable .names 0 (omega arith))) (names r (s .words) _ .so (F .enable .names 1 (omega arith))) a d (F .address .long) (F .word .long)
-    (users-tell r (s .words) a (2 * r .n) (F .address .long) .so (F .address .names)) (users-tell r (s .words) d (2 * r .w) (F .word .long) .so (F .word .names)) (space-room r (s .words) (s .list) room)))
-    (λ room. rw (i, room) (nine-leaves (access (write c a d)) s (writeBuilt c a s) _ (λ f. short-leaves (access (write c a d)) s))))
+    (users-tell r (s .words) a (2 * r .n) (F .address .long) .so (F .address .names)) (users-tell r (s .words) d (2 * r .w) (F .word .long) .so (F .word .names)) (space-room r (s .words) (s .list) room))
+    (λ i f room. short-leaves (access (write c a d)) s)
 finish-leaves (access (read p en a out)) s e =
     let F = read-facts s p en a out e in
     let X = read-program σ s p en a out F in
@@ -213,13 +216,11 @@ finish-leaves (access (assert b a d)) s e =
     let n = x .store .count in
     let v = x .answer .condition in
     let c = access (assert b a d) in
-    nine-leaves c s x (enter s b a d)
-    (λ f. split (eqb (x .answer .keep) 1)
-    (λ t. rw t (conditions-leave c s kept refl (x .words) n (X .extends) (X .standard) v (r .checked) (λ u. means-user (X .post .condition)) (user-grows (X .extends) (r .checked))))
-    (λ t. split (spaceFor r (s .words) 1 (s .list))
-    (λ room. rw (t, room) (entry-leaves c s entered refl (x .words) n (X .extends) (X .standard) refl v (λ u. means-user (X .post .condition)) b (x .answer .notB) (user-grows (X .extends) b (names r (s .words) b .so (K .control))) (means-user (X .post .notB))
-    a d (K .address .long) (K .word .long) (users-tell r (s .words) a (2 * r .n) (K .address .long) .so (K .address .names)) (users-tell r (s .words) d (2 * r .w) (K .word .long) .so (K .word .names)) (space-room r (s .words) (s .list) room)))
-    (λ room. rw (t, room) (short-leaves c s))))
+    of-assert (λ (z : Finish). Leaves c s (closed s z)) b a d s (λ f. full-leaves c s _)
+    (λ f k. conditions-leave c s kept refl (x .words) n (X .extends) (X .standard) v (r .checked) (λ u. means-user (X .post .condition)) (user-grows (X .extends) (r .checked)))
+    (λ f k room. short-leaves c s) (λ f k room g. full-leaves c s _)
+    (λ f k room g. entry-leaves c s entered refl (x .words) n (X .extends) (X .standard) refl v (λ u. means-user (X .post .condition)) b (x .answer .notB) (user-grows (X .extends) b (names r (s .words) b .so (K .control))) (means-user (X .post .notB))
+    a d (K .address .long) (K .word .long) (users-tell r (s .words) a (2 * r .n) (K .address .long) .so (K .address .names)) (users-tell r (s .words) d (2 * r .w) (K .word .long) .so (K .word .names)) (space-room r (s .words) (s .list) room))
 finish-leaves (access (check b a d)) s e =
     let X = check-program σ s b a d (check-facts s b a d e) in
     let r = s .rec in

@@ -4,17 +4,14 @@ use mathlib.Core.Bool.{Bool, true, false, true≢false, false≢true}
 use mathlib.Core.List.{List}
 use Prim.Native.Nat.{ℕ, zero, suc}
 use native.Mathlib.Omega.{arith}
-use lib.Dec.{eqb}
 use lib.ListN.{getD}
-use Rattle.nodes.proofs.BoolLaws.{split}
-use Rattle.conditions.specs.Build.{Outcome}
-use Rattle.model.specs.Rows.{spaceFor}
-use Rattle.model.specs.Step.{State, write, read, assert, check, evaluate, variable, ite, Call, access, nodeCall, Given, place, idle, filled, entered, kept, accepted, valued, node, Answer, refused, done, Result, refusal, Finish, full, short, gives, closed, unlessFull, assertFirst, enter, isIdle, finishWrite, finishAccess, finishNode, finish, turnedDownBy, step}
+use Rattle.model.specs.Step.{State, write, read, assert, check, evaluate, variable, ite, Call, access, nodeCall, Given, place, idle, filled, entered, kept, accepted, valued, node, Answer, refused, done, Result, refusal, Finish, full, short, gives, closed, isIdle, finishAccess, finishNode, finish, turnedDownBy, step}
 use Rattle.model.specs.Frames.{isWrite, IdleLeaves}
 use Rattle.model.specs.Table.{WriteFacts, NeverOne, MayBeOne, IdleExactly}
 use Rattle.model.specs.Meanings.{KeptWhereNever, EnteredWhere}
 use Rattle.model.proofs.TerminalLaws.{node-0-alone, somewhere-true, idle-zero, other-not-zero}
 use Rattle.model.proofs.FactLaws.{write-facts}
+use Rattle.model.proofs.FinishLaws.{of-program, of-write, of-assert}
 use Rattle.model.proofs.StepLaws.{isLeftOut}
 use Rattle.model.proofs.Demand2.{acts, idle-or-entered, kept-or-entered, entered-where}
 
@@ -58,25 +55,15 @@ Idles c s (full t) = Unit {0}
 Idles c s short = Unit {0}
 Idles c s (gives g t) = givesIdle g ≡ true → (isWrite c ≡ true) × (t ≡ s)
 
-full-idles : {A : Type 0} (c : Call) (s : State) (x : Outcome A) (f : A → List ℕ → ℕ → Finish) → Idles c s (f (x .answer) (x .words) (x .store .count)) → Idles c s (unlessFull x f)
-unfolding unlessFull
-full-idles c s x f h = split (x .store .full) (λ t. rw t tt) (λ t. rw t h)
-
 finish-idles : (c : Call) (s : State) → Idles c s (finish c s)
-unfolding finishAccess finishWrite finishNode enter
-finish-idles (access (write c a d)) s =
-    split (isIdle c) (λ i. rw i (λ z. (refl, refl)))
-    (λ i. rw i (full-idles (access (write c a d)) s _ _ (split (spaceFor (s .rec) (s .words) 1 (s .list)) (λ r. rw r (λ z. absurd (false≢true z))) (λ r. rw r tt))))
-finish-idles (access (read p e a out)) s = full-idles (access (read p e a out)) s _ _ (λ z. absurd (false≢true z))
-finish-idles (access (assert b a d)) s =
-    let x = assertFirst b a d s in
-    full-idles (access (assert b a d)) s x (enter s b a d)
-    (split (eqb (x .answer .keep) 1) (λ e. rw e (λ z. absurd (false≢true z)))
-    (λ e. split (spaceFor (s .rec) (s .words) 1 (s .list)) (λ r. rw (e, r) (full-idles (access (assert b a d)) s _ _ (λ z. absurd (false≢true z)))) (λ r. rw (e, r) tt)))
-finish-idles (access (check b a d)) s = full-idles (access (check b a d)) s _ _ (λ z. absurd (false≢true z))
+unfolding finishAccess finishNode
+finish-idles (access (write c a d)) s = of-write (Idles (access (write c a d)) s) c a d s (λ i z. (refl, refl)) (λ i f. tt) (λ i f r z. absurd (false≢true z)) (λ i f r. tt)
+finish-idles (access (read p e a out)) s = of-program (Idles (access (read p e a out)) s) _ _ (λ f. tt) (λ f z. absurd (false≢true z))
+finish-idles (access (assert b a d)) s = of-assert (Idles (access (assert b a d)) s) b a d s (λ f. tt) (λ f k z. absurd (false≢true z)) (λ f k r. tt) (λ f k r g. tt) (λ f k r g z. absurd (false≢true z))
+finish-idles (access (check b a d)) s = of-program (Idles (access (check b a d)) s) _ _ (λ f. tt) (λ f z. absurd (false≢true z))
 finish-idles (nodeCall (evaluate f a)) s = λ z. absurd (false≢true z)
-finish-idles (nodeCall (variable v)) s = full-idles (nodeCall (variable v)) s _ _ (λ z. absurd (false≢true z))
-finish-idles (nodeCall (ite f g h)) s = full-idles (nodeCall (ite f g h)) s _ _ (λ z. absurd (false≢true z))
+finish-idles (nodeCall (variable v)) s = of-program (Idles (nodeCall (variable v)) s) _ _ (λ f. tt) (λ f z. absurd (false≢true z))
+finish-idles (nodeCall (ite f g h)) s = of-program (Idles (nodeCall (ite f g h)) s) _ _ (λ f. tt) (λ f z. absurd (false≢true z))
 
 pub idle-leaves : IdleLeaves
 unfolding IdleLeaves step closed

@@ -1,6 +1,6 @@
 -- 9 is met at capacity, and just where a call would leave more nodes than that: every access is a program that makes the store full there alone, and in longer words does the same up to there.
 use mathlib.Core.Path.{_≡_, refl, sym, ap, subst, _∙_}
-use mathlib.Core.Bool.{Bool, true, false, cond, _&&_, false≢true, true≢false}
+use mathlib.Core.Bool.{Bool, true, false, cond, false≢true, true≢false}
 use mathlib.Core.Logic.{_⊎_, inl, inr}
 use mathlib.Core.List.{List}
 use Prim.Native.Nat.{ℕ, zero, suc, _*_, _/_, _<_, _≤_, min}
@@ -17,10 +17,11 @@ use Rattle.conditions.proofs.Promises.{standard-within, pure-fills, next-fills,
 use Rattle.model.specs.Record.{Record, hAt, lAt, entryAt, addressOf, dataOf, heldWord}
 use Rattle.model.specs.Access.{uniqueBit, Unique, Certain, Write, narrowBit, Narrow, halfStep, EachHalf, mergeHalf, entryStep, settleHalf, Look, Read, insideHalf, Inside, Check, AssertBuilt, Assert, holdHalf}
 use Rattle.model.specs.Rows.{spaceFor}
-use Rattle.model.specs.Step.{State, write, read, assert, check, evaluate, variable, ite, Call, access, nodeCall, Given, valued, kept, entered, Answer, isRefused, refused, refusal, Finish, full, short, gives, closed, unlessFull, begin, grown, withEntry, withCheckCondition, assertFirst, enter, isIdle, finishWrite, finishAccess, finishNode, finish, turnedDownBy, step, withHeld, writeBuilt}
+use Rattle.model.specs.Step.{State, write, read, assert, check, evaluate, variable, ite, Call, access, nodeCall, Given, valued, isRefused, refused, refusal, Finish, full, short, gives, closed, unlessFull, begin, grown, withEntry, withCheckCondition, assertFirst, enter, isIdle, finishWrite, finishAccess, finishNode, finish, turnedDownBy, step, withHeld}
 use Rattle.model.specs.Frames.{lateRow, NineAtCapacity}
-use Rattle.model.specs.Table.{AllHold, facts, withMore, InMore, NineExactly}
+use Rattle.model.specs.Table.{withMore, InMore, NineExactly}
 use Rattle.model.proofs.FactLaws.{call-standard, call-told}
+use Rattle.model.proofs.FinishLaws.{of-program, of-write, of-assert}
 use Rattle.model.proofs.FrameLaws.{plain, rows-plain}
 use Rattle.model.proofs.StayLaws.{nine-full}
 
@@ -102,35 +103,22 @@ module _ (s : State) (S : Standard (s .words) (s .rec .count)) where
   Met short = Unit {0}
   Met (gives g t) = t .rec .count ≤ capacity
 
-  full-met : {A : Type 0} (x : Outcome A) (q : A → List ℕ → ℕ → Finish) → Within capacity (x .words) (x .store) → (x .store .full ≡ false → Met (q (x .answer) (x .words) (x .store .count))) → Met (unlessFull x q)
-  unfolding unlessFull
-  full-met x q W g = go (x .store .full) refl
-    where
-      go : (f : Bool) → x .store .full ≡ f → Met (cond f (full (x .store)) (q (x .answer) (x .words) (x .store .count)))
-      go true e = W .at-capacity e
-      go false e = g e
-
   -- a program alone
   alone-met : {A : Type 0} {m : Build A} (F : Fills m) (g : A → Given) (t : A → List ℕ → ℕ → State) → ((a : A) (w : List ℕ) (c : ℕ) → t a w c .rec .count ≡ c) → Met (unlessFull (m (s .words) (begin (s .rec))) (λ a w c. gives (g a) (t a w c)))
-  alone-met F g t h = full-met _ _ (from F) (λ e. rw (h _ _ _) (from F .most))
+  alone-met F g t h = of-program Met _ _ (from F .at-capacity) (λ e. rw (h _ _ _) (from F .most))
 
   finish-met : (c : Call) → Met (finish c s)
-  unfolding finishAccess finishWrite finishNode enter
+  unfolding finishAccess finishNode
   finish-met (access (write c a d)) =
       let X = from (write-fills (s .rec .n) (getD c 0 0) (getD c 1 0) a) in
-      split (isIdle c) (λ i. rw i (standard-within S .most))
-      (λ i. rw i (full-met (writeBuilt c a s) _ X (λ e. split (spaceFor (s .rec) (s .words) 1 (s .list)) (λ r. rw r (X .most)) (λ r. rw r tt))))
+      of-write Met c a d s (λ i. standard-within S .most) (λ i f. X .at-capacity f) (λ i f r. X .most) (λ i f r. tt)
   finish-met (access (read p e a out)) = alone-met (read-fills (s .rec) (s .list) (heldWord (s .rec) (s .ports) p) (getD e 0 0) (getD e 1 0) a) _ _ (λ a w c. refl)
   finish-met (access (check b a d)) = alone-met (check-fills (s .rec) (s .list) b a d) _ _ (λ a w c. refl)
   finish-met (access (assert b a d)) =
       let x = assertFirst b a d s in
       let X = from (assert-fills (s .rec) (s .list) b a d) in
       let Y = write-fills (s .rec .n) b (x .answer .notB) a .within capacity (x .words) (record { count = x .store .count; full = false }) (record { capacity = X .capacity; most = X .most; at-capacity = λ e. absurd (false≢true e) }) in
-      full-met x _ X
-      (λ f. split (eqb (x .answer .keep) 1) (λ t. rw t (X .most))
-      (λ t. split (spaceFor (s .rec) (s .words) 1 (s .list))
-      (λ r. rw (t, r) (full-met (Write (s .rec .n) b (x .answer .notB) a (x .words) (record { count = x .store .count; full = false })) _ Y (λ e. Y .most)))
-      (λ r. rw (t, r) tt)))
+      of-assert Met b a d s (X .at-capacity) (λ f k. X .most) (λ f k r. tt) (λ f k r g. Y .at-capacity g) (λ f k r g. Y .most)
   finish-met (nodeCall (evaluate f a)) = standard-within S .most
   finish-met (nodeCall (variable v)) = alone-met (variable-fills v) _ _ (λ a w c. refl)
   finish-met (nodeCall (ite f g h)) = alone-met (ite-fills f g h) _ _ (λ a w c. refl)

@@ -1,16 +1,14 @@
 -- What a call leaves of the two conditions, and by what it is refused.
-use mathlib.Core.Path.{_≡_, refl, sym, ap, _∙_}
-use mathlib.Core.Bool.{Bool, true, false, _&&_, _||_, true≢false}
-use mathlib.Core.List.{List}
+use mathlib.Core.Path.{_≡_, refl, sym, ap}
+use mathlib.Core.Bool.{true, false, _&&_, _||_, true≢false}
 use Prim.Native.Nat.{ℕ, zero, suc}
 use native.Mathlib.Omega.{arith}
 use lib.Dec.{eqb}
 use borrow.Author.Tests.{eq-eqb}
 use Rattle.nodes.proofs.BoolLaws.{split}
-use Rattle.conditions.specs.Build.{Outcome}
-use Rattle.model.specs.Rows.{spaceFor}
-use Rattle.model.specs.Step.{State, write, read, assert, check, evaluate, variable, ite, Call, access, nodeCall, Answer, refused, done, isRefused, Result, refusal, Finish, full, short, gives, closed, unlessFull, assertFirst, enter, isIdle, finishWrite, finishAccess, finishNode, finish, turnedDownBy, step}
+use Rattle.model.specs.Step.{State, write, read, assert, check, evaluate, variable, ite, Call, access, nodeCall, refused, isRefused, refusal, Finish, full, short, gives, closed, finishAccess, finishNode, finish, turnedDownBy, step}
 use Rattle.model.specs.Frames.{isAssert, isCheck, lateRow, RefusedByRow, RowRefuses, ConditionsStay}
+use Rattle.model.proofs.FinishLaws.{of-program, of-write, of-assert}
 
 -- what is closed is refused by its late row, and else not
 closed-refused : (s : State) (x : Finish) (k : ℕ) → closed s x .answer ≡ refused k → eqb (lateRow x) k ≡ true
@@ -43,26 +41,18 @@ FinishStays c s (full t) = Unit {0}
 FinishStays c s short = Unit {0}
 FinishStays c s (gives g t) = Stays c s t
 
-full-stays : {A : Type 0} (c : Call) (s : State) (x : Outcome A) (f : A → List ℕ → ℕ → Finish) → FinishStays c s (f (x .answer) (x .words) (x .store .count)) → FinishStays c s (unlessFull x f)
-unfolding unlessFull
-full-stays c s x f h = split (x .store .full) (λ t. rw t tt) (λ t. rw t h)
-
 finish-stays : (c : Call) (s : State) → FinishStays c s (finish c s)
-unfolding finishAccess finishWrite finishNode enter
+unfolding finishAccess finishNode
 finish-stays (access (write c a d)) s =
-    split (isIdle c) (λ i. rw i (record { asserted = λ e. refl; checked = λ e. refl }))
-    (λ i. rw i (full-stays (access (write c a d)) s _ _ (split (spaceFor (s .rec) (s .words) 1 (s .list)) (λ r. rw r (record { asserted = λ e. refl; checked = λ e. refl })) (λ r. rw r tt))))
-finish-stays (access (read p c a d)) s = full-stays (access (read p c a d)) s _ _ (record { asserted = λ e. refl; checked = λ e. refl })
-finish-stays (access (check c a d)) s = full-stays (access (check c a d)) s _ _ (record { asserted = λ e. refl; checked = λ e. absurd (true≢false e) })
+    of-write (FinishStays (access (write c a d)) s) c a d s (λ i. record { asserted = λ e. refl; checked = λ e. refl }) (λ i f. tt) (λ i f r. record { asserted = λ e. refl; checked = λ e. refl }) (λ i f r. tt)
+finish-stays (access (read p c a d)) s = of-program (FinishStays (access (read p c a d)) s) _ _ (λ f. tt) (λ f. record { asserted = λ e. refl; checked = λ e. refl })
+finish-stays (access (check c a d)) s = of-program (FinishStays (access (check c a d)) s) _ _ (λ f. tt) (λ f. record { asserted = λ e. refl; checked = λ e. absurd (true≢false e) })
 finish-stays (access (assert b a d)) s =
-    let c = access (assert b a d) in
-    let x = assertFirst b a d s in
-    full-stays c s x (enter s b a d)
-    (split (eqb (x .answer .keep) 1) (λ e. rw e (record { asserted = λ z. absurd (true≢false z); checked = λ z. refl }))
-    (λ e. split (spaceFor (s .rec) (s .words) 1 (s .list)) (λ r. rw (e, r) (full-stays c s _ _ (record { asserted = λ z. absurd (true≢false z); checked = λ z. refl }))) (λ r. rw (e, r) tt)))
+    of-assert (FinishStays (access (assert b a d)) s) b a d s (λ f. tt) (λ f k. record { asserted = λ z. absurd (true≢false z); checked = λ z. refl }) (λ f k r. tt) (λ f k r g. tt)
+    (λ f k r g. record { asserted = λ z. absurd (true≢false z); checked = λ z. refl })
 finish-stays (nodeCall (evaluate f a)) s = record { asserted = λ e. refl; checked = λ e. refl }
-finish-stays (nodeCall (variable v)) s = full-stays (nodeCall (variable v)) s _ _ (record { asserted = λ e. refl; checked = λ e. refl })
-finish-stays (nodeCall (ite f g h)) s = full-stays (nodeCall (ite f g h)) s _ _ (record { asserted = λ e. refl; checked = λ e. refl })
+finish-stays (nodeCall (variable v)) s = of-program (FinishStays (nodeCall (variable v)) s) _ _ (λ f. tt) (λ f. record { asserted = λ e. refl; checked = λ e. refl })
+finish-stays (nodeCall (ite f g h)) s = of-program (FinishStays (nodeCall (ite f g h)) s) _ _ (λ f. tt) (λ f. record { asserted = λ e. refl; checked = λ e. refl })
 
 closed-stays : (c : Call) (s : State) (x : Finish) → FinishStays c s x → Stays c s (closed s x .after)
 unfolding closed

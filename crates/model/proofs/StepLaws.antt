@@ -1,7 +1,7 @@
 -- One call: the state goes on holding, under one 64-bit assignment, what the published accesses make of the values.
-use mathlib.Core.Path.{_≡_, refl, sym, ap, _∙_, subst}
+use mathlib.Core.Path.{_≡_, refl, sym, _∙_, subst}
 use mathlib.Core.Logic.{_↔_}
-use mathlib.Core.Bool.{Bool, true, false, cond, not, _&&_, _||_, false≢true}
+use mathlib.Core.Bool.{Bool, true, false, cond, not, _&&_, false≢true}
 use mathlib.Core.List.{List, [], _∷_, _++_}
 use Prim.Native.Nat.{ℕ, zero, suc, _+_, _*_, _^_, _<_, _≤_}
 use native.Mathlib.Omega.{arith}
@@ -10,26 +10,24 @@ use lib.Dec.{T, eqb}
 use lib.ListN.{length, getD, length-append, List·getD-append}
 use lib.Seq.{getD-at}
 use borrow.Author.Tests.{eqb-true, eqb-false}
-use Rattle.nodes.proofs.BoolLaws.{split, and-both}
 use Rattle.conditions.specs.Stores.{Standard, clearOf}
 use Rattle.conditions.specs.declared.Store.{Store}
-use Rattle.conditions.specs.Build.{Outcome, Build}
+use Rattle.conditions.specs.Build.{Outcome}
 use Rattle.conditions.specs.Make.{Variable}
 use Rattle.conditions.specs.Ite.{Ite}
 use Rattle.conditions.specs.Value.{value}
 use Rattle.conditions.specs.Assignment.{bitAt}
-use Rattle.conditions.specs.Meaning.{Stands, Builds}
+use Rattle.conditions.specs.Meaning.{Builds}
 use Rattle.conditions.proofs.Promises.{clear-keep, stands-value, value-1}
-use Rattle.model.specs.Pairs.{Pair, legals, admit, unique, at}
+use Rattle.model.specs.Pairs.{Pair, admit, at}
 use Rattle.model.specs.Record.{Record, withCount, withEntries, withAsserted, withChecked, entryAt, appended, listCapacity, heldWord, replaced}
-use Rattle.model.specs.Access.{Marks, Write, Read, AssertBuilt, Assert, Check}
-use Rattle.model.specs.Rows.{spaceFor}
-use Rattle.model.specs.Step.{State, write, read, assert, check, NodeCall, evaluate, variable, ite, Call, access, nodeCall, Given, place, idle, filled, entered, kept, accepted, valued, node, Answer, refused, done, Result, refusal, turnedDown, cleared, Finish, full, short, gives, closed, unlessFull, begin, grown, withEntry, withHeld, withAssertCondition, withCheckCondition, assertFirst, enter, isIdle, finishWrite, finishAccess, finishNode, finish, turnedDownBy, step}
+use Rattle.model.specs.Access.{Marks, Write, Read, AssertBuilt, Check}
+use Rattle.model.specs.Step.{State, write, read, assert, check, NodeCall, evaluate, variable, ite, Call, access, nodeCall, Given, place, idle, filled, entered, kept, accepted, valued, node, Answer, refused, done, Result, refusal, turnedDown, cleared, Finish, full, closed, unlessFull, begin, grown, withEntry, withHeld, withAssertCondition, assertFirst, finishAccess, finishNode, finish, turnedDownBy, step}
 use Rattle.model.specs.Published.{Entry, entry, answer, checkHolds, assertHolds, control, keeps}
 use Rattle.model.specs.Array.{Event, writes, reads, asserts, checks, nothing}
-use Rattle.model.specs.Held.{Held, add, heldAfter, NowMay, Accepted}
+use Rattle.model.specs.Held.{Held, heldAfter, NowMay, Accepted}
 use Rattle.model.specs.Claims.{pairAt, pairs, event, BitMay}
-use Rattle.model.specs.Table.{ReadFacts, CheckFacts, AssertFacts}
+use Rattle.model.specs.Table.{ReadFacts, AssertFacts}
 use Rattle.model.proofs.PairLaws.{eq→T}
 use Rattle.model.proofs.KeptLaws.{SameHeld, same-after, same-idle, same-kept}
 use Rattle.model.proofs.MeansLaws.{Means, means-as, up, near-self, ite-means, variable-means}
@@ -38,6 +36,7 @@ use Rattle.model.proofs.AccessLaws.{Halves, EntryMeans, noEntry, Entrie
 use Rattle.model.proofs.PortLaws.{held-at, replaced-length, replaced-in, replaced-other, half-at}
 use Rattle.model.proofs.ListLaws.{new-address, new-data, entry-old, entry-new}
 use Rattle.model.proofs.TerminalLaws.{idle-off}
+use Rattle.model.proofs.FinishLaws.{of-program, of-write, of-assert}
 use Rattle.model.proofs.FactLaws.{space-room, write-facts, read-facts, check-facts, assert-facts, variable-facts, ite-facts}
 use Rattle.model.proofs.RowLaws.{length-pairs, name-means, names-halves, pair-legal, pairs-legal, pairs-unique}
 
@@ -167,8 +166,8 @@ module _ (σ : ℕ → Bool) (s : State) (h : Held) (H : Holds σ s h) (c : Call
 
     -- a program, and what follows it where the store is not full
     nine-follows : {A : Type 0} (x : Outcome A) (k : A → List ℕ → ℕ → Finish) → (x .store .full ≡ false → Follows σ s h c (closed s (k (x .answer) (x .words) (x .store .count)))) → Follows σ s h c (closed s (unlessFull x k))
-    unfolding unlessFull closed
-    nine-follows x k f = split (x .store .full) (λ t. rw t (cleared-follows 9)) (λ e. rw e (f e))
+    unfolding closed
+    nine-follows x k f = of-program (λ (z : Finish). Follows σ s h c (closed s z)) x k (λ t. cleared-follows 9) f
 
     module _ {A : Type 0} {P : List ℕ → Store → A → Type 0} {x : Outcome A} (X : Builds (s .words) (begin (s .rec)) P x) (e : x .store .full ≡ false) where
       -- the same entries and condition in the store that grew
@@ -227,7 +226,7 @@ module _ (k : ℕ) (small : k < 2 ^ 64) (s : State) (h : Held) (H : Holds (bitAt
   names-port {p} F = record { half = λ i l. means-as (name-means σ (s .rec) (s .words) (F .memory .standard) (rw (held-at (s .rec) (s .ports) p i l) (F .ports p (omega (arith, F .port)) i l))) (λ τ. half-at σ (s .words) (heldWord (s .rec) (s .ports) p) i) }
 
   write-follows : (c a d : List ℕ) → refusal (access (write c a d)) s ≡ 0 → Follows σ s h (access (write c a d)) (closed s (finish (access (write c a d)) s))
-  unfolding finishAccess finishWrite closed listCapacity
+  unfolding finishAccess closed listCapacity
   write-follows c a d e =
       let F = write-facts s c a d e in
       let S = F .memory .standard in
@@ -246,11 +245,10 @@ module _ (k : ℕ) (small : k < 2 ^ 64) (s : State) (h : Held) (H : Holds (bitAt
         (pairs-legal k small (s .rec) (s .words) a (s .rec .n) (F .address .legal), lq),
         (pairs-legal k small (s .rec) (s .words) d (s .rec .w) (F .word .legal), length-pairs σ (s .words) d 0 (s .rec .w)),
       ) in
-      split (isIdle c)
-      (λ z. rw z (record { same-n = refl; same-w = refl; accepted = legal; left-out = λ y. idle-off c (s .words) σ z; holds = H; long = λ n. n; ports = λ n P. P; bits = λ P i l b. (λ y. y, λ y. y) }))
-      (λ z. rw z (nine-follows σ s h H (access (write c a d)) S x _
-      (λ e. split (spaceFor (s .rec) (s .words) 1 (s .list))
-      (λ u. rw u (record {
+      of-write (λ (z : Finish). Follows σ s h (access (write c a d)) (closed s z)) c a d s
+      (λ z. record { same-n = refl; same-w = refl; accepted = legal; left-out = λ y. idle-off c (s .words) σ z; holds = H; long = λ n. n; ports = λ n P. P; bits = λ P i l b. (λ y. y, λ y. y) })
+      (λ z e. cleared-follows σ s h H (access (write c a d)) S 9)
+      (λ z e u. record {
         same-n = refl;
         same-w = refl;
         accepted = legal;
@@ -266,8 +264,8 @@ module _ (k : ℕ) (small : k < 2 ^ 64) (s : State) (h : Held) (H : Holds (bitAt
         long = λ n. n;
         ports = λ n P. let Q = grown-ports σ s h H (access (write c a d)) S X e P in record { words = Q .words };
         bits = λ P i l b. (λ z. z, λ z. z);
-      }))
-      (λ u. rw u (cleared-follows σ s h H (access (write c a d)) S 8)))))
+      })
+      (λ z e u. cleared-follows σ s h H (access (write c a d)) S 8)
 
   read-follows : (p : ℕ) (en a out : List ℕ) → refusal (access (read p en a out)) s ≡ 0 → Follows σ s h (access (read p en a out)) (closed s (finish (access (read p en a out)) s))
   unfolding finishAccess closed
@@ -446,17 +444,11 @@ module _ (k : ℕ) (small : k < 2 ^ 64) (s : State) (h : Held) (H : Holds (bitAt
             bits = λ P i l b. (λ z. z, λ z. z);
           }
 
-      enter-follows : Follows σ s h (access (assert b a d)) (closed s (enter s b a d (x .answer) (x .words) (x .store .count)))
-      unfolding enter closed
-      enter-follows =
-          split (eqb (x .answer .keep) 1) (λ t. rw t (kept-follows (eqb-true _ _ t)))
-          (λ t. split (spaceFor r (s .words) 1 (s .list))
-          (λ u. rw (t, u) (nine-follows σ s h H (access (assert b a d)) standard y _ (entered-follows (space-room r (s .words) (s .list) u))))
-          (λ u. rw (t, u) (cleared-follows σ s h H (access (assert b a d)) standard 8)))
-
     assert-follows : Follows σ s h (access (assert b a d)) (closed s (finish (access (assert b a d)) s))
-    unfolding finishAccess
-    assert-follows = nine-follows σ s h H (access (assert b a d)) standard x _ enter-follows
+    unfolding closed
+    assert-follows =
+        of-assert (λ (z : Finish). Follows σ s h (access (assert b a d)) (closed s z)) b a d s (λ f. cleared-follows σ s h H (access (assert b a d)) standard 9) (λ f k. kept-follows f (eqb-true _ _ k))
+        (λ f k r. cleared-follows σ s h H (access (assert b a d)) standard 8) (λ f k r g. cleared-follows σ s h H (access (assert b a d)) standard 9) (λ f k r g. entered-follows f (space-room (s .rec) (s .words) (s .list) r) g)
 
   node-follows : (c : NodeCall) → refusal (nodeCall c) s ≡ 0 → Follows σ s h (nodeCall c) (closed s (finish (nodeCall c) s))
   unfolding finishNode closed
