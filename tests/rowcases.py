@@ -7,7 +7,7 @@ from rooms import ROOT
 import casetext
 from calls import PORTS, entry_size
 from casefile import Access, CaseFile, ONE, X, ZERO, access_bytes, bits, number_bits
-from reference import printed, run_case
+from reference import LIST_WORDS, printed, run_case
 from stored import through_library, through_memcase
 
 WORKED = bytes.fromhex(
@@ -314,24 +314,21 @@ def row_8():
         yield through_library("row-08-assert-words-%d" % words, case.bytes(),
                               "an assert kept, which needs no space, and one entered; %d list words" % words,
                               list_words=words)
-    # Every node number from the file's count to the last one that the case needs.
-    case = one_assert()
-    need = run_case(case.bytes()).record.nodes
-    for count in range(len(case.nodes) + 2, need + 1):
-        yield through_library("row-08-assert-nodes-%d" % count, case.bytes(),
-                              "an assert with no space for its entry: 9 where a node is missing earlier, else 8; "
-                              "capacity %d" % count, node_words=3 * count, list_words=0)
-        yield through_library("row-09-assert-nodes-%d" % count, case.bytes(),
-                              "the same assert with space: 9 also in its write; capacity %d" % count,
-                              node_words=3 * count)
-    case = one_write()
-    need = run_case(case.bytes()).record.nodes
-    for count in range(len(case.nodes) + 2, need + 1):
-        yield through_library("row-08-write-nodes-%d" % count, case.bytes(),
-                              "a write with no space for its entry: 9 where a node is missing, else 8; "
-                              "capacity %d" % count, node_words=3 * count, list_words=5)
-        yield through_library("row-09-write-nodes-%d" % count, case.bytes(),
-                              "the same write with space; capacity %d" % count, node_words=3 * count, list_words=6)
+    yield from by_capacity("assert", one_assert(), 0, LIST_WORDS,
+                           "an assert with no space for its entry: 9 where a node is missing earlier, else 8",
+                           "the same assert with space: 9 also in its write")
+    yield from by_capacity("write", one_write(), 5, 6,
+                           "a write with no space for its entry: 9 where a node is missing, else 8",
+                           "the same write with space")
+
+
+def by_capacity(access, case, few, enough, no_space, space):
+    """The case without and with space in its list, at every node number from the file's count to the
+    last one that it needs."""
+    for count in range(len(case.nodes) + 2, run_case(case.bytes()).record.nodes + 1):
+        for row, list_words, text in ((8, few, no_space), (9, enough, space)):
+            yield through_library("row-%02d-%s-nodes-%d" % (row, access, count), case.bytes(),
+                                  "%s; capacity %d" % (text, count), node_words=3 * count, list_words=list_words)
 
 
 def kept_assert():

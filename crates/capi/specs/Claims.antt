@@ -9,7 +9,7 @@ use Rattle.model.specs.Step.{write, Call, access, isRefused, step}
 use Rattle.model.specs.Frames.{clears, wordsAfter}
 use Rattle.model.specs.Table.{NeverOne}
 use Rattle.capi.specs.Words.{stateIn}
-use Rattle.capi.specs.Contract.{left, called, freshed}
+use Rattle.capi.specs.Contract.{idlePlace, left, called, freshed}
 
 -- "0 for accepted"
 unfoldable pub ZeroAccepts : Type 0
@@ -21,7 +21,7 @@ RefusedLeaves = (c : Call) (r w l ps a : List ℕ) (v k : ℕ) → length r ≡ 
 
 -- 02: the place of an accepted write is `MD_IDLE` exactly where its enable is 0 under every assignment: no entry has that place
 unfoldable pub IdlePlace : Type 0
-IdlePlace = (c a d r w l ps : List ℕ) (v : ℕ) → called (access (write c a d)) r w l ps [] v .number ≡ 0 → (called (access (write c a d)) r w l ps [] v .out ≡ 4294967295) ↔ NeverOne (stateIn r w l ps) c
+IdlePlace = (c a d r w l ps : List ℕ) (v : ℕ) → called (access (write c a d)) r w l ps [] v .number ≡ 0 → (called (access (write c a d)) r w l ps [] v .out ≡ idlePlace) ↔ NeverOne (stateIn r w l ps) c
 
 unfoldable pub FreshRefused : Type 0
 FreshRefused = (n w : ℕ) (r ws ps : List ℕ) (k : ℕ) → length r ≡ 6 → freshed n w r ws ps .0 ≡ suc k → freshed n w r ws ps ≡ (suc k, r, ws, ps)

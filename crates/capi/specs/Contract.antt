@@ -11,10 +11,14 @@ abbrev pub numberOf : Answer → ℕ
 numberOf (refused k) = k
 numberOf (done g) = 0
 
--- the out-word that held v: "`value` is 0 or 1; `entered` is 1, or 0 for kept"; a write's is its place, or `MD_IDLE`, which is no entry's place
+-- `MD_IDLE`
+abbrev pub idlePlace : ℕ
+idlePlace = 4294967295
+
+-- the out-word that held v: "`value` is 0 or 1; `entered` is 1, or 0 for kept"; a write's is its place, or `MD_IDLE`
 abbrev pub givenOut : Given → ℕ → ℕ
 givenOut (place k) v = k
-givenOut idle v = 4294967295
+givenOut idle v = idlePlace
 givenOut (filled r) v = v
 givenOut entered v = 1
 givenOut kept v = 0

@@ -28,10 +28,11 @@ fn tested(r: Fields, words: &[u32], enable: &[u32], address: &[u32], data: &[u32
     ensures { λ x. ⌜ x ≡ testedAs r (firstRow (argumentRows (recordOf r) (now (words .entry)) (now (enable .entry)) 1 (now (address .entry)) (now («data» .entry)) (r .w))) (isIdle (now (enable .entry))) ⌝ }
 {
     let k = r.argument_row(words, enable, 1, address, data, r.w as usize);
+    let h = ControlNode(enable[0]);
     WriteDone {
         after: r,
         row: k,
-        idle: (k == 0) & (enable[0] == 0),
+        idle: (k == 0) & (h.0 == 0),
     }
 }
 

@@ -15,7 +15,7 @@ shared-slice-read-t10 : tie.Need-shared-slice-read-t10
 shared-slice-read-t10 c = search needs
 
 returns : tie.Need-returns
-returns c = rw (← c .before .argument-row .ensures)
+returns c = rw (← c .before .before .argument-row .ensures)
 
 pub tested-spec : {M : Type 1} → statement M
 tested-spec =
