@@ -43,6 +43,23 @@
  * Node capacity is the words divided by 3, rounded down, at most 16,384. List capacity is whole
  * entries of 2 + 2n + 2w words, at most 4,096.
  *
+ * The entry count is exact, and a list can be planned from the accesses. After calls from md_fresh on, the
+ * entries are as many as the accepted writes whose enable may be 1 under some assignment, plus the accepted
+ * asserts whose data differs from the look under some assignment with b. The look is the word at the
+ * address, as an enabled read before the assert would give it. All else adds none: idle writes, kept
+ * asserts, reads, checks, the calls on nodes and what is refused. So a list of that many entries is enough
+ * for these accesses, and with one entry less the last that adds one meets 8. In a fresh memory of n = 1 and
+ * w = 1, with a the pair of a variable and its Not:
+ *
+ *    write   enable 1   1 at 0   one
+ *    write   enable a   0 at 1   one: a may be 1
+ *    write   enable 0   1 at 1   none: never 1
+ *    assert  b = 1      1 at 0   none: the look is 1
+ *    assert  b = a.h    0 at 1   none: where b holds, the look is 0
+ *    assert  b = 1      0 at 1   one: where a is 0, the look is X
+ *
+ * Three entries of 6 words: a list of 18 words is enough, and in one of 12 the last assert meets 8.
+ *
  * What a caller must see to:
  *  - A pointer is not null and is aligned for its type, also where the length beside it is 0.
  *  - What a call is lent does not overlap, but that two slices or records that it only reads may.

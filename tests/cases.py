@@ -18,7 +18,7 @@ from derivedcases import many_variables, much_work
 from limitcases import limits, numbers_of_nodes, shared
 from randomcases import Random
 from reference import INPUT_BYTES, run_case
-from rowcases import idle, orders, paper, ports, rows
+from rowcases import counted, idle, orders, paper, ports, rows
 from stored import through_library, through_memcase
 from storedcases import BUFFERS, BYTE, OUT, digest, digest_words
 
@@ -52,7 +52,8 @@ def damaged_with_tables(rng):
             return data, kind
 
 
-GROUPS = [paper, rows, orders, idle, ports, limits, numbers_of_nodes, shared, many_variables, much_work, random_cases]
+GROUPS = [paper, rows, orders, idle, counted, ports, limits, numbers_of_nodes, shared, many_variables, much_work,
+          random_cases]
 
 
 def all_cases():

@@ -20,7 +20,7 @@ from collections import Counter
 
 import rooms  # noqa: F401
 from calls import (ASSERT, CHECK, EVALUATE, FRESH, IDLE, ITE, NAMES, READ, VARIABLE, WRITE, Call, entry_size, run)
-from randomcalls import (Shape, State, Words, access, any_call, call, damage, memory, no_memory, shape, store,
+from randomcalls import (Shape, Words, access, after, any_call, call, damage, memory, no_memory, shape, store, unbegun,
                          user_variables)
 from randomcases import random_bytes
 from reference import left_of, run_case
@@ -94,11 +94,6 @@ def ask(library, one, state, out):
     return number, told.value, tuple(record.words()), nodes.words(), entries.words(), data.words(), ports.words()
 
 
-def after(left):
-    """The memory that a call leaves."""
-    return State(left.record, left.nodes, left.list, left.ports)
-
-
 def is_idle(one, left):
     return one.kind == WRITE and left.out == IDLE
 
@@ -162,10 +157,7 @@ class Test:
         """Calls one after another from a Fresh."""
         rng = Words(seed)
         size = shape(rng)
-        nodes = rng.words(rng.between(6, 120) if rng.chance(50) else rng.between(100, 900))
-        listed = rng.words(rng.below(8) * entry_size(size.n, size.w) + rng.below(4))
-        state = State(rng.record(), nodes, listed, rng.ports())
-        state = self.step(rng, state, Call(FRESH, other=(size.n, size.w)), 10)
+        state = self.step(rng, unbegun(rng, size), Call(FRESH, other=(size.n, size.w)), 10)
         for _ in range(rng.between(5, 20)):
             state = self.step(rng, state, call(rng, state, size.variables), 25)
 

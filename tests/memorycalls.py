@@ -1,6 +1,7 @@
 #!/usr/bin/env python3
 """The calls of `memory_test`: every row by each call that can meet it, the order of the rows, idle
-writes, the panel's rulings, what ports hold, lists and stores at their limits.
+writes, the panel's rulings, a list of just the entries that are needed, what ports hold, lists and
+stores at their limits.
 
     python3 tests/memorycalls.py            write crates/memory_test/stdin and stdout
     python3 tests/memorycalls.py --check    compare them; status 1 where one is not as made
@@ -458,6 +459,17 @@ def idle_between():
     assert memory.read(ONE).number == 0 and memory.check(ZERO, ONE).number == 0
 
 
+def budget():
+    """Six accesses of which three count: two writes whose enable may be 1, and an assert of 0 where X is.  A list
+    of three entries is enough, and in one of two the last access meets 8."""
+    for entries, row in ((3, 0), (2, 8)):
+        memory = Memory("list of %d entries" % entries, 1, 1, [7] * 60, [7] * (6 * entries))
+        a = memory.variable(8)
+        assert [memory.write(*given).out for given in ((ZERO, ONE), (ONE, ZERO, a), (ONE, ONE, ZERO))] == [0, 1, IDLE]
+        assert [memory.assert_(*given).out for given in ((ZERO, ONE), (ONE, ZERO, a[0]))] == [0, 0], "kept"
+        assert memory.assert_(ONE, ZERO).number == row and memory.record.entries == entries
+
+
 def holding():
     """A port holds the last word read by it: a disabled read gives it again, one under an X enable the
     union of it and the look; no other port is touched, nor is a word past the held ones."""
@@ -630,7 +642,8 @@ def largest_stores():
 
 
 SMALL = [row_1, row_2, row_3, row_4, row_5, row_6, row_7, row_8, row_9, row_14, order, order_of_idle, order_of_read,
-         order_in_write, order_in_assert, order_unlisted, idle, not_idle, rulings, idle_between, holding, late_nine]
+         order_in_write, order_in_assert, order_unlisted, idle, not_idle, rulings, idle_between, budget, holding,
+         late_nine]
 GROUPS = SMALL + [largest_sizes, lists, most_entries, largest_stores]
 
 

@@ -4,7 +4,7 @@ from collections import namedtuple
 
 import rooms  # noqa: F401
 from calls import (ASSERT, CHECK, EVALUATE, FRESH, ITE, PORT_WORDS, PORTS, READ, VARIABLE, WRITE, Call, Record,
-                   entry_size, halves, held_places, tables_of)
+                   entry_size, halves, held_places, run, tables_of)
 from randomcases import Random
 from tables import TERMINALS, USER_VARIABLE, TooManyVariables, is_standard, node_capacity
 
@@ -14,6 +14,9 @@ ONE, ZERO, X = [1, 0], [0, 1], [1, 1]
 
 State = namedtuple("State", "record nodes list ports")
 Shape = namedtuple("Shape", "n w variables")
+
+# A call, the memory that it is lent, and what it answers and leaves.
+Step = namedtuple("Step", "call state left")
 
 
 class Words(Random):
@@ -93,6 +96,13 @@ def held_ports(rng, w, users):
     for port in range(PORTS):
         ports[held_places(port, w)] = [rng.choice(users) for _ in range(2 * w)]
     return ports
+
+
+def unbegun(rng, size):
+    """Any words, for a Fresh of this shape: few or many nodes, and a list of few entries."""
+    nodes = rng.words(rng.between(6, 120) if rng.chance(50) else rng.between(100, 900))
+    listed = rng.words(rng.below(8) * entry_size(size.n, size.w) + rng.below(4))
+    return State(rng.record(), nodes, listed, rng.ports())
 
 
 def no_memory(rng):
@@ -205,6 +215,26 @@ def any_call(rng, state):
 
 def any_port(rng):
     return rng.below(PORTS) if rng.chance(60) else rng.choice([PORTS, PORTS + 1, rng.word()])
+
+
+# Calls one after another.
+
+def after(left):
+    """The memory that a call leaves."""
+    return State(left.record, left.nodes, left.list, left.ports)
+
+
+def chain(rng):
+    """The steps from a Fresh on, a quarter of the calls damaged."""
+    size = shape(rng)
+    state, one = unbegun(rng, size), Call(FRESH, other=(size.n, size.w))
+    for _ in range(rng.between(6, 21)):
+        left = run(one, *state)
+        yield Step(one, state, left)
+        state = after(left)
+        one = call(rng, state, size.variables)
+        if rng.chance(25):
+            one = damage_call(rng, one, state)
 
 
 # Damage.

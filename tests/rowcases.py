@@ -1,5 +1,5 @@
 """Stored cases for the paper's examples and rulings, each row of its table, and their order; what ports hold;
-writes that are idle."""
+writes that are idle; asserts that are counted."""
 
 import os
 
@@ -19,7 +19,7 @@ WORKED = bytes.fromhex(
 
 def examples():
     yield through_memcase("worked", WORKED, "the paper's file")
-    for name in ("worked", "registers", "buffer"):
+    for name in ("worked", "registers", "buffer", "budget"):
         with open(os.path.join(ROOT, "examples", name + ".txt"), encoding="utf-8") as file:
             data = casetext.encode(file.read())
         yield through_memcase("example-" + name, data, "examples/%s.txt" % name)
@@ -574,6 +574,26 @@ def idle():
     case.read(ONE, [ZERO])
     yield through_memcase("idle-or-not", case.bytes(),
                           "enables that may be 1 under some assignment are entered, and between them idle ones")
+
+
+# What is counted of asserts; of writes, the idle ones above.
+
+def counted():
+    """Asserts whose data differs from the look, and such as are kept, after writes that may hit."""
+    case = CaseFile()
+    a = case.bit(8)
+    case.write(ONE, [ZERO], [ONE])
+    case.write(X, [ZERO], [ZERO])
+    case.assert_(1, [ZERO], [X])
+    case.assert_(1, [ZERO], [ZERO])
+    case.write(ONE, [X], [ONE])
+    case.assert_(1, [ZERO], [ZERO])
+    case.assert_(1, [ZERO], [X])
+    case.assert_(1, [a], [ONE])
+    case.assert_(1, [a], [ONE])
+    case.assert_(a[0], [ONE], [ONE])
+    yield through_memcase("counted-asserts", case.bytes(),
+                          "of seven asserts the second to the fifth differ from the look and are counted")
 
 
 # What ports hold.

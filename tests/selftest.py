@@ -4,12 +4,15 @@
     python3 tests/selftest.py [-v]
 
 They hold the reference to the paper's file, rulings and small inputs, to all plain
-runs of small cases, and to wrong programs, each of which the cases must find out.
+runs of small cases, its count of entries to its list and to one found bit by bit, and
+all to wrong programs, each of which the cases must find out.
 """
 
+import functools
 import itertools
 import os
 import unittest
+from collections import Counter
 from contextlib import contextmanager
 
 from rooms import ROOT
@@ -18,6 +21,7 @@ import callscript
 import cases
 import casetext
 import derivedcases
+import entrycount
 import memorycalls
 import plain
 import randomcalls
@@ -26,12 +30,18 @@ import reference
 import rowcases
 import storedcases
 import tables
+import wrongcounts
 import wrongreads
 import wrongwrites
 from casefile import CaseFile, NotACaseFile, ONE, X, ZERO, parse
 from randomcases import Random
-from reference import memcase, printed, run_case
+from reference import Event, memcase, printed, run_case
 from tables import Conditions, TooManyVariables
+
+
+@functools.lru_cache
+def stored_cases():
+    return cases.all_cases()
 
 
 def read_lines(case):
@@ -208,7 +218,7 @@ class PlainRuns(unittest.TestCase):
         self.assertGreater(idle, 60)
 
     def test_stored_cases_are_exact(self):
-        for case in [*rowcases.idle(), *rowcases.ports(), *rowcases.rulings()]:
+        for case in [*rowcases.idle(), *rowcases.counted(), *rowcases.ports(), *rowcases.rulings()]:
             outcome = run_case(case.data)
             self.assertEqual(plain.differences(outcome, *case.data[:2]), [], case.name)
 
@@ -242,6 +252,111 @@ class PlainRuns(unittest.TestCase):
             ports = [event.port for event in outcome.events if event.kind == calls.READ]
             again += len(ports) - len(set(ports))
         self.assertGreater(again, 10)
+
+
+# The count of entries the slowest way: under one assignment, with the events as plain.py has them.
+
+def bit_values(words, bit):
+    return {word >> bit & 1 for word in words}
+
+
+def enable_bits(event):
+    """The bits that the enable of a write may be, and b of an assert; none of another event."""
+    if event.kind == calls.ASSERT:
+        return [event.control]
+    return event.control if event.kind == calls.WRITE else []
+
+
+def cell_values(events, location, bit):
+    """What a bit of a cell may be after these events."""
+    values = {0, 1}
+    for event in events:
+        enables = enable_bits(event)
+        if 1 in enables and location in event.locations:
+            certain = enables == [1] and event.locations == [location]
+            values = bit_values(event.words, bit) | (set() if certain else values)
+    return values
+
+
+def counts_here(events, event, w):
+    """Whether an event after these counts under their assignment.  Where b holds, row 7 leaves an assert one
+    location."""
+    if event.kind != calls.ASSERT:
+        return 1 in enable_bits(event)
+    if not event.control:
+        return False
+    location, = event.locations
+    return any(bit_values(event.words, bit) != cell_values(events, location, bit) for bit in range(w))
+
+
+def slow_count(outcome, w):
+    """How many of the events count under some assignment."""
+    found = set()
+    for assignment in plain.user_assignments(outcome.conditions):
+        events = [plain.plain_event(event, assignment) for event in outcome.events]
+        found |= {place for place, event in enumerate(events) if counts_here(events[:place], event, w)}
+    return len(found)
+
+
+# The count of a chain of calls.
+
+def step_event(step, variables):
+    """A step's access with tables over these variables, its nodes taken in the node words that it is lent."""
+    call, state, _ = step
+    conditions = Conditions(variables, tables.node_capacity(len(state.nodes)))
+    conditions.load(randomcalls.standard(state)[2:])
+    given = call.control, call.address, [] if call.kind == calls.READ else call.data
+    control, address, data = ([conditions.tables[node] for node in words] for words in given)
+    return Event(call.kind, call.port, tuple(control), calls.pairs(address), calls.pairs(data), None)
+
+
+def chain_count(steps, rows=(0,)):
+    """The count of those accesses of a chain that are answered by one of these rows, 0 being accepted."""
+    last = randomcalls.after(steps[-1].left)
+    variables = {node[0] for node in randomcalls.standard(last)} & set(range(tables.USER_VARIABLE, tables.VARIABLES))
+    events = [step_event(step, variables) for step in steps
+              if step.left.number in rows and step.call.kind in callscript.ACCESSES]
+    return entrycount.entry_count(last.record.n, last.record.w, Conditions(variables, 2).true, events)
+
+
+class EntryCounts(unittest.TestCase):
+    """The count, which is found from the accesses, is the number of entries in the list."""
+
+    def test_stored_cases(self):
+        for case in stored_cases():
+            if case.record:
+                self.assertEqual(case.out.splitlines()[-1], "end %d" % case.record.entries, case.name)
+
+    def test_random_cases(self):
+        answers = Counter()
+        for seed in range(300):
+            outcome = run_case(randomcases.without_refusals(randomcases.small(Random(seed))).bytes())
+            if outcome.refusal is None:
+                self.assertEqual(outcome.lines[-1], "end %d\n" % len(outcome.memory.entries), seed)
+                answers.update(event.answer for event in outcome.events if isinstance(event.answer, str))
+        self.assertGreater(min(answers[word] for word in ("entered", "kept", "idle")), 60)
+
+    def test_one_assignment_at_a_time(self):
+        asserts = 0
+        for seed in range(600):
+            case = tiny_case(seed)
+            outcome = run_case(case.bytes())
+            self.assertEqual(outcome.lines[-1], "end %d\n" % slow_count(outcome, case.w), seed)
+            asserts += sum(event.kind == calls.ASSERT for event in outcome.events)
+        self.assertGreater(asserts, 200)
+
+    def test_chains_of_calls(self):
+        """From a Fresh on, with node calls and refused calls among them; with the accesses that 8 or 9 refuses
+        the count would often be another."""
+        refused = told = 0
+        for seed in range(400):
+            steps = list(randomcalls.chain(randomcalls.Words(seed)))
+            entries = steps[-1].left.record.entries
+            self.assertEqual(chain_count(steps), entries, seed)
+            refused += sum(step.left.number != 0 for step in steps)
+            told += chain_count(steps, (0, 8, 9)) != entries
+        self.assertGreater(refused, 400)
+        self.assertGreater(told, 50)
 
 
 # Wrong programs: a class, the name of a function of it, and the wrong function, which
@@ -390,6 +505,7 @@ WRONG = [
 ]
 WRONG += [(calls.Memory, "read", wrong) for wrong in wrongreads.WRONG_READS]
 WRONG += [(calls.Memory, "write", wrong) for wrong in wrongwrites.WRONG_WRITES]
+WRONG += wrongcounts.WRONG_COUNTS
 
 
 def index_nodes_taken(_right, nodes, words):
@@ -517,7 +633,7 @@ def planted(place, name, wrong):
 
 class WrongPrograms(unittest.TestCase):
     def test_stored_cases_find_each(self):
-        stored = [case for case in cases.all_cases() if len(case.data) < 5000 and not derived(case)]
+        stored = [case for case in stored_cases() if len(case.data) < 5000 and not derived(case)]
         for place, name, wrong in WRONG:
             with planted(place, name, wrong):
                 self.assertTrue(any(differs(case) for case in stored), wrong.__name__)

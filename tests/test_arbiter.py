@@ -156,7 +156,7 @@ class Verdicts(Folders):
         ], simulator("forgets-held-word"), simulator("holds-across-ports"))
 
     def test_idle_writes(self):
-        """One that gives idle writes a place, and one that counts them; both are right where there are none."""
+        """One that gives idle writes a place, and one that only counts them; both are right where there are none."""
         self.put_stored("idle-first", "ruling-09", "ruling-02")
         self.expect(1, [
             "case             first    second",
@@ -164,9 +164,9 @@ class Verdicts(Folders):
             "  first differs from line 1, byte 7",
             "    memcase  write idle",
             "    first    write 0",
-            "  second differs from line 5, byte 7",
-            "    memcase  write 0",
-            "    second   write 3",
+            "  second differs from line 7, byte 5",
+            "    memcase  end 1",
+            "    second   end 4",
             "ruling-09.case   differs  differs",
             "  first differs from line 1, byte 7",
             "    memcase  write idle",
@@ -179,6 +179,29 @@ class Verdicts(Folders):
             "first: agreed 2, differs 2, hung 0, crashed 0",
             "second: agreed 2, differs 2, hung 0, crashed 0",
         ], simulator("enters-idle-writes"), simulator("counts-idle-writes"))
+
+    def test_counts(self):
+        """One that counts kept asserts, and one that counts what differs only where b does not hold; both are
+        right where every assert is entered."""
+        self.put_stored("example-budget", "row-07-data", "row-07-apart")
+        self.expect(1, [
+            "case                 first    second",
+            "example-budget.case  differs  differs",
+            "  first differs from line 9, byte 5",
+            "    memcase  end 3",
+            "    first    end 5",
+            "  second differs from line 9, byte 5",
+            "    memcase  end 3",
+            "    second   end 4",
+            "row-07-data.case     differs  agreed",
+            "  first differs from line 6, byte 5",
+            "    memcase  end 3",
+            "    first    end 4",
+            "",
+            "4 cases",
+            "first: agreed 2, differs 2, hung 0, crashed 0",
+            "second: agreed 3, differs 1, hung 0, crashed 0",
+        ], simulator("counts-kept-asserts"), simulator("counts-asserts-outside-b"))
 
     def test_hung(self):
         self.expect(1, [

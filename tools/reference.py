@@ -7,6 +7,7 @@ ordered diagrams are canonical, so two nodes are the same exactly where their
 tables are, and Make makes a new node exactly where its table was not yet seen.
 Each access is built in the paper's order, no step left out, so that nodes are
 numbered and counted as the paper counts them and refusal 9 comes where it must.
+The number in the last line is counted from the accesses (entrycount.py) and not from the list.
 
     python3 tools/reference.py [--node-words N] [--list-words N] [--text-bytes N]
 
@@ -20,6 +21,7 @@ import sys
 from collections import namedtuple
 
 from calls import ASSERT, CHECK, READ, WRITE, Memory, do_access, in_range, test_pairs, test_port
+from entrycount import entry_count
 from tables import (TABLE_VARIABLES, TERMINALS, USER_VARIABLE, Conditions, Refused, TooManyVariables, is_standard,
                     node_capacity)
 
@@ -174,7 +176,7 @@ class Case:
             self.access(reader, text)
         if not reader.at_end():
             raise Refused(12)
-        text.put(conditions, ["end %d" % len(self.memory.entries)])
+        text.put(conditions, ["end %d" % entry_count(n, w, conditions.true, self.events)])
         return "".join(self.lines)
 
     def access(self, reader, text):

@@ -1,8 +1,9 @@
 /*
  * The paper's example, once by the calls and once as a case file. Both texts must be the paper's, and
  * both must leave the same record, node words and list words; then a read that is not enabled must give
- * again what its port holds, and a write that is never enabled must be idle and change nothing. Else the
- * program says what differs and its status is 1.
+ * again what its port holds, and a write that is never enabled must be idle and change nothing. Last, the
+ * header's example of counted entries must need exactly as many as it says. Else the program says what
+ * differs and its status is 1.
  */
 #include <stdio.h>
 #include <string.h>
@@ -183,9 +184,42 @@ static void hold_values(const struct memory *m)
     }
 }
 
+/* The header's example of counted entries, in a list of so many words: the row of its last access. */
+static uint32_t counted(struct memory *m, size_t list_words)
+{
+    static const uint32_t one[2] = {1, 0};
+    static const uint32_t zero[2] = {0, 1};
+    uint32_t a[2] = {0, 0};
+    uint32_t out = 0;
+
+    accept("fresh", md_fresh(m->record, 1, 1, m->nodes, NODE_WORDS, m->ports));
+    accept("variable", md_variable(m->record, m->nodes, NODE_WORDS, 8, &a[0]));
+    accept("ite", md_ite(m->record, m->nodes, NODE_WORDS, a[0], 0, 1, &a[1]));
+    accept("write", md_write(m->record, m->nodes, NODE_WORDS, m->list, list_words, one, 2, zero, 2, one, 2, &out));
+    accept("write", md_write(m->record, m->nodes, NODE_WORDS, m->list, list_words, a, 2, one, 2, zero, 2, &out));
+    accept("write", md_write(m->record, m->nodes, NODE_WORDS, m->list, list_words, zero, 2, one, 2, one, 2, &out));
+    accept("assert", md_assert(m->record, m->nodes, NODE_WORDS, m->list, list_words, 1, zero, 2, one, 2, &out));
+    accept("assert", md_assert(m->record, m->nodes, NODE_WORDS, m->list, list_words, a[0], one, 2, zero, 2, &out));
+    return md_assert(m->record, m->nodes, NODE_WORDS, m->list, list_words, 1, one, 2, zero, 2, &out);
+}
+
+/* The example needs three entries: with three its last access is accepted, and with two it meets 8. */
+static void hold_count(struct memory *m)
+{
+    uint32_t entries;
+    for (entries = 2; entries <= 3; entries++) {
+        uint32_t row = counted(m, entries * ENTRY_WORDS);
+        if (row != (entries == 3 ? 0 : 8) || m->record[MD_ENTRIES] != entries) {
+            printf("%u entries lent: row %u, and %u entries\n", (unsigned)entries, (unsigned)row,
+                   (unsigned)m->record[MD_ENTRIES]);
+            failures++;
+        }
+    }
+}
+
 int main(void)
 {
-    static struct memory calls, whole;
+    static struct memory calls, whole, budget;
 
     by_calls(&calls);
     by_case(&whole);
@@ -198,6 +232,7 @@ int main(void)
     hold_values(&calls);
     hold_port(&calls);
     hold_idle(&calls);
+    hold_count(&budget);
 
     printf("%.*s", (int)whole.length, whole.text);
     return failures != 0;

@@ -11,6 +11,9 @@ import time
 
 sys.path.insert(0, os.path.join(os.path.dirname(os.path.abspath(__file__)), os.pardir))
 
+import rooms  # noqa: F401
+import entrycount
+import wrongcounts
 import wrongreads
 import wrongwrites
 from calls import Memory
@@ -35,29 +38,39 @@ def loses_unknown():
     write(right_text().replace(" 1:1", " 1:0"))
 
 
-def with_wrong(access, wrong):
-    """The text of a simulator of which one access, `read` or `write`, is a wrong one."""
-    right_access = getattr(Memory, access)
-    setattr(Memory, access, lambda *arguments: wrong(right_access, *arguments))
+def with_wrong(place, name, wrong):
+    """The text of a simulator of which one function is a wrong one."""
+    right_one = getattr(place, name)
+    setattr(place, name, lambda *arguments: wrong(right_one, *arguments))
     right()
 
 
 def forgets_held_word():
-    with_wrong("read", wrongreads.forgets_held_word)
+    with_wrong(Memory, "read", wrongreads.forgets_held_word)
 
 
 def holds_across_ports():
-    with_wrong("read", wrongreads.holds_across_ports)
+    with_wrong(Memory, "read", wrongreads.holds_across_ports)
 
 
 def enters_idle_writes():
     """A write that is idle gets a place."""
-    with_wrong("write", wrongwrites.idle_entered)
+    with_wrong(Memory, "write", wrongwrites.idle_entered)
 
 
 def counts_idle_writes():
-    """A write that is idle is printed so, and counted as an entry."""
-    with_wrong("write", wrongwrites.idle_counted)
+    """A write that is idle is printed so, and counted in the last line."""
+    with_wrong(entrycount, "write_counts", wrongcounts.idle_counted)
+
+
+def counts_kept_asserts():
+    """An assert that is kept is printed so, and counted in the last line."""
+    with_wrong(entrycount, "assert_counts", wrongcounts.kept_counted)
+
+
+def counts_asserts_outside_b():
+    """An assert is counted also where its data differs from the look only where b does not hold."""
+    with_wrong(entrycount, "assert_counts", wrongcounts.counted_outside_b)
 
 
 def hangs():
@@ -130,10 +143,10 @@ def writes_nothing():
     sys.stdin.buffer.read()
 
 
-WAYS = [right, loses_unknown, forgets_held_word, holds_across_ports, enters_idle_writes, counts_idle_writes, hangs,
-        hangs_after_text, hangs_with_output_closed, leaves_child, ends_by_signal, ends_with_status,
-        ends_with_status_after_text, writes_without_end, complains, complains_without_end, breaks_off,
-        refuses_after_text, reads_nothing, writes_nothing]
+WAYS = [right, loses_unknown, forgets_held_word, holds_across_ports, enters_idle_writes, counts_idle_writes,
+        counts_kept_asserts, counts_asserts_outside_b, hangs, hangs_after_text, hangs_with_output_closed, leaves_child,
+        ends_by_signal, ends_with_status, ends_with_status_after_text, writes_without_end, complains,
+        complains_without_end, breaks_off, refuses_after_text, reads_nothing, writes_nothing]
 
 
 if __name__ == "__main__":

@@ -42,6 +42,12 @@
 //! memory.write(&mut words[..], &mut words[..], &[1, 0], &[1, 0], &[1, 0]);
 //! ```
 //!
+//! The entry count is exact, and a list can be planned from the accesses: after calls from `fresh` on, the
+//! entries are as many as the accepted writes whose enable may be 1 under some assignment, plus the
+//! accepted asserts whose data differs from the look under some assignment with `b`. A list of that many
+//! entries, each 2 + 2n + 2w words, is enough for these accesses, and with one entry less the last that adds
+//! one meets 8.
+//!
 //! A call needs up to [`STACK`] bytes of stack and no heap; nothing is kept between calls.
 
 pub mod raw;
