@@ -175,13 +175,17 @@ case-text file words list text k r e =
       bytes = ap (λ (x : Case). x .text) left ∙ ap (λ (x : Out). x .buffer) (F .1) ∙ ap (λ (i : ℕ). xs ++ drop i text) (sym size-is);
     }
 
+-- an accepted case began where lists of calls may begin
+pub case-begins : (file words list text : List ℕ) (k : ℕ) (r : Record) → caseOf file words list text .answer ≡ accepts k r → Begins (stateIn file words list)
+case-begins file words list text k r e =
+    let E = case-ends file words list text k r e in
+    whole-began file words list text (E .state) (E .text-end) (E .is) .begins
+
 pub case-exactly : CaseExactly
 unfolding CaseExactly CaseText Demand3
 case-exactly file words list text k r e a small =
-    let E = case-ends file words list text k r e in
-    let B = whole-began file words list text (E .state) (E .text-end) (E .is) in
     let P = case-text file words list text k r e in
-    let X = demand3 (stateIn file words list) (B .begins) (callsIn file) a small in
+    let X = demand3 (stateIn file words list) (case-begins file words list text k r e) (callsIn file) a small in
     let t = run (callsIn file) (stateIn file words list) in
     let same : value (caseOf file words list text .words) (bitAt a) (r .checked) ≡ value (t .words) (bitAt a) (t .rec .checked) = ap (λ (x : List ℕ). value x (bitAt a) (r .checked)) (P .nodes) ∙ ap (λ (x : Record). value (t .words) (bitAt a) (x .checked)) (P .last) in
     record {

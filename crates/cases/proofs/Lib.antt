@@ -6,5 +6,6 @@ pub mod AcceptedLaws
 pub mod RefusedLaws
 pub mod PrintLaws
 pub mod WriteLaws
+pub mod CountLaws
 pub mod NumberLaws
 pub mod ExampleLaws

@@ -1,4 +1,4 @@
--- What is claimed of every case: when it is accepted; of an accepted one, its text and demand 3; of a refused one, its number and K.
+-- What is claimed of every case: when it is accepted; of an accepted one, its text, demand 3 and the count of its entries; of a refused one, its number and K.
 use mathlib.Core.Path.{_≡_}
 use mathlib.Core.Logic.{_↔_, _⊎_}
 use mathlib.Core.Bool.{Bool, false}
@@ -12,8 +12,9 @@ use Rattle.lines.specs.Lines.{writeLine, idleLine, endLine, refusedLine}
 use Rattle.model.specs.Record.{Record, freshPorts}
 use Rattle.model.specs.Step.{State, write, Call, access, Answer, refused, isRefused, step, run}
 use Rattle.model.specs.Array.{Run, observed, Allowed}
-use Rattle.model.specs.Claims.{events, Exactly}
+use Rattle.model.specs.Claims.{fed, events, Exactly}
 use Rattle.model.specs.Table.{NeverOne, MayBeOne}
+use Rattle.model.specs.Count.{entryCount}
 use Rattle.reading.specs.Bytes.{numbersAt}
 use Rattle.reading.specs.Kinds.{sizeOf}
 use Rattle.reading.specs.Accesses.{found, kindAt, nodesAt, endOf, accessAt, portIn}
@@ -169,3 +170,14 @@ pub record CaseExact (file words list : List ℕ) (r : Record) (c : Case) (φ : 
 
 unfoldable pub CaseExactly : Type 0
 CaseExactly = (file words list text : List ℕ) (k : ℕ) (r : Record) → caseOf file words list text .answer ≡ accepts k r → (a : ℕ) → a < 2 ^ 64 → CaseExact file words list r (caseOf file words list text) (bitAt a)
+
+-- 02: "Budgets are planned from the last line": the count of entries, in the record that an accepted case answers and on its last line, is that of the file's accesses
+abbrev pub countIn : List ℕ → List ℕ → List ℕ → ℕ
+countIn file words list = entryCount (getD file 0 0) (getD file 1 0) (fed (stateIn file words list) (callsIn file))
+
+pub record CaseCounts (file words list text : List ℕ) (r : Record) : Type 0 where
+  pub entries : r .entries ≡ countIn file words list
+  pub ends : bytesOf (outputOf (caseOf file words list text) .text) ≡ accessLines (callsIn file) (stateIn file words list) ++ endLine (countIn file words list)
+
+unfoldable pub CaseCount : Type 0
+CaseCount = (file words list text : List ℕ) (k : ℕ) (r : Record) → caseOf file words list text .answer ≡ accepts k r → CaseCounts file words list text r

@@ -20,6 +20,8 @@ pub use Rattle.conditions.proofs.IteLaws.{ite-builds, not-builds, and-b
 pub use Rattle.conditions.proofs.MakeLaws.{variable-builds}
 pub use Rattle.conditions.proofs.AnyLaws.{any-builds, some-same}
 pub use Rattle.diagrams.proofs.AssignmentLaws.{change-same, change-other, some-has, some-all}
+-- each assignment to the 64 variables is a 64-bit number
+pub use Rattle.diagrams.proofs.AssignmentLaws.{numberOf, bit-number, number-fits}
 pub use Rattle.diagrams.proofs.ValueLaws.{value-0, value-1}
 -- a store becomes full at its capacity alone
 pub use Rattle.conditions.proofs.FullLaws.{standard-within, pure-fills, next-fills, each-fills, variable-fills, ite-fills, any-fills}

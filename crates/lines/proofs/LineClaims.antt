@@ -11,8 +11,8 @@ use Rattle.text.proofs.ByteLaws.{heads, tails, after}
 use Rattle.text.proofs.DecimalLaws.{digit-first, decimal-then}
 use Rattle.conditions.specs.Show.{textOf, Alike}
 use Rattle.conditions.proofs.Promises.{text-first, same-text, text-same}
-use Rattle.lines.specs.Lines.{writeWord, writeLine, idleLine, bitText, bitsText, readWord, readLine, assertWord, assertLine, checkWord, checkLine}
-use Rattle.lines.specs.Claims.{WriteLines, Printed, PrintedWord, CheckLines, AssertLines, ReadLines}
+use Rattle.lines.specs.Lines.{writeWord, writeLine, idleLine, endWord, endLine, bitText, bitsText, readWord, readLine, assertWord, assertLine, checkWord, checkLine}
+use Rattle.lines.specs.Claims.{WriteLines, EndLines, Printed, PrintedWord, CheckLines, AssertLines, ReadLines}
 
 -- conditions that are alike have the same text
 alike-text : {w w′ : List ℕ} {c c′ n n′ : ℕ} → Printed w c n → Printed w′ c′ n′ → Alike w n w′ n′ → textOf w n ≡ textOf w′ n′
@@ -24,6 +24,10 @@ write-lines k k′ = (
   (λ e. decimal-then k k′ 10 10 [] [] (omega arith) (omega arith) (after writeWord e) .0, λ e. rw e),
   λ e. omega (arith, digit-first k (10 ∷ []) (100 ∷ 108 ∷ 101 ∷ 10 ∷ []) 105 (after writeWord e) .1),
 )
+
+pub end-lines : EndLines
+unfolding EndLines endLine
+end-lines k k′ = (λ e. decimal-then k k′ 10 10 [] [] (omega arith) (omega arith) (after endWord e) .0, λ e. rw e)
 
 pub check-lines : CheckLines
 unfolding CheckLines checkLine

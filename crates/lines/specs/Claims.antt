@@ -8,11 +8,15 @@ use Prim.Native.Nat.{ℕ, _*_, _<_}
 use lib.ListN.{length, getD}
 use Rattle.nodes.specs.Standard.{Standard}
 use Rattle.conditions.specs.Show.{Alike}
-use Rattle.lines.specs.Lines.{writeLine, idleLine, checkLine, assertLine, readLine}
+use Rattle.lines.specs.Lines.{writeLine, idleLine, endLine, checkLine, assertLine, readLine}
 
 -- two write lines: the same place; and none is that of an idle write
 unfoldable pub WriteLines : Type 0
 WriteLines = (k k′ : ℕ) → ((writeLine k ≡ writeLine k′) ↔ (k ≡ k′)) × (writeLine k ≡ idleLine → ⊥)
+
+-- two end lines: the same count
+unfoldable pub EndLines : Type 0
+EndLines = (k k′ : ℕ) → (endLine k ≡ endLine k′) ↔ (k ≡ k′)
 
 -- a store in standard form with c nodes, and a node of it
 pub record Printed (w : List ℕ) (c n : ℕ) : Type 0 where

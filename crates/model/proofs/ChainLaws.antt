@@ -3,19 +3,18 @@ use mathlib.Core.Path.{_≡_, refl, sym, ap, subst, _∙_}
 use mathlib.Core.Logic.{_↔_}
 use mathlib.Core.Bool.{Bool, true≢false}
 use mathlib.Core.List.{List, [], _∷_}
-use Prim.Native.Nat.{ℕ, zero, suc, _+_, _^_, _<_, _≤_}
-use native.Mathlib.Omega.{arith}
+use Prim.Native.Nat.{ℕ, zero, suc, _^_, _<_}
 use lib.Dec.{T}
 use Rattle.conditions.specs.Value.{value}
 use Rattle.conditions.specs.Assignment.{bitAt}
 use Rattle.model.specs.Record.{Record}
 use Rattle.model.specs.Step.{State, Call, accepted, Answer, refused, done, Result, isRefused, step, run, Fresh, fresh}
 use Rattle.model.specs.Array.{Event, Run, observed, Returns, Allowed, lastMemory}
-use Rattle.model.specs.Claims.{event, events, BitMay, May, Begins, Exactly, Demand3, FromFresh, HeldMay}
-use Rattle.model.specs.Frames.{acceptedWrites, accepts, CountAtMost}
-use Rattle.model.specs.Chain.{numbered, freshed, Link, Chained, lastState, eventsOf, MayBe, ExactlyRuns, ChainExactly, writesOf, ChainCount}
+use Rattle.model.specs.Claims.{event, Fed, fed, under, BitMay, May, Begins, Exactly, Demand3, FromFresh, HeldMay}
+use Rattle.model.specs.Chain.{numbered, freshed, Link, Chained, lastState, fedOf, eventsOf, MayBe, ExactlyRuns, ChainExactly}
+use Rattle.model.specs.Count.{entryCount, CountExactly, ChainCount}
 use Rattle.model.proofs.Demand3.{demand3, from-fresh}
-use Rattle.model.proofs.FrameLaws.{count-at-most}
+use Rattle.model.proofs.CountLaws.{count-exactly}
 use Rattle.model.specs.Pairs.{bit}
 
 calls : List Link → List Call
@@ -27,11 +26,11 @@ unfolding run calls
 chain-run s [] C = refl
 chain-run s (k ∷ ks) C = ap (λ (x : Result). run (calls ks) (x .after)) (C .0) ∙ chain-run (k .after) ks (C .1)
 
-chain-events : (φ : ℕ → Bool) (s : State) (ks : List Link) → Chained s ks → events φ s (calls ks) ≡ eventsOf φ s ks
+chain-fed : (s : State) (ks : List Link) → Chained s ks → fed s (calls ks) ≡ fedOf s ks
 unfolding calls
-chain-events φ s [] C = refl
-chain-events φ s (k ∷ ks) C =
-    ap (λ (x : Result). event φ s (k .call) (x .answer) ∷ events φ (x .after) (calls ks)) (C .0) ∙ ap (λ (es : List Event). event φ s (k .call) (k .answer) ∷ es) (chain-events φ (k .after) ks (C .1))
+chain-fed s [] C = refl
+chain-fed s (k ∷ ks) C =
+    ap (λ (x : Result). (λ (φ : ℕ → Bool). event φ s (k .call) (x .answer)) ∷ fed (x .after) (calls ks)) (C .0) ∙ ap (λ (es : List Fed). (λ (φ : ℕ → Bool). event φ s (k .call) (k .answer)) ∷ es) (chain-fed (k .after) ks (C .1))
 
 chain-may : (φ : ℕ → Bool) (s : State) (ks : List Link) (j i : ℕ) (b : Bool) → Chained s ks → May φ s (calls ks) j i b ≡ MayBe φ ks j i b
 unfolding calls
@@ -45,7 +44,7 @@ unfolding Demand3
 chain-from s B ks C a h =
     let φ = bitAt a in
     let X = demand3 s B (calls ks) a h in
-    let E = chain-events φ s ks C in
+    let E = ap (under φ) (chain-fed s ks C) in
     record {
       bits = λ j i m b.
           subst (λ (P : Type 0). P ↔ ((r : Run (s .rec .w) (eventsOf φ s ks)) × Returns (observed (s .rec .w) (eventsOf φ s ks) r j) i b)) (chain-may φ s ks j i b C)
@@ -75,15 +74,7 @@ unfolding ChainExactly
 chain-exactly given n w ws ps s e ks C a h = chain-from s (fresh-begins given n w ws ps s e) ks C a h
 
 -- and the count of its entries
-chain-accepts : (s : State) (ks : List Link) → Chained s ks → accepts (calls ks) s ≡ writesOf ks
-unfolding calls
-chain-accepts s [] C = refl
-chain-accepts s (k ∷ ks) C =
-    ap (λ (x : Result). acceptedWrites (x .answer) + accepts (calls ks) (x .after)) (C .0) ∙ ap (λ (m : ℕ). acceptedWrites (k .answer) + m) (chain-accepts (k .after) ks (C .1))
-
 pub chain-count : ChainCount
-unfolding ChainCount CountAtMost
+unfolding ChainCount CountExactly
 chain-count given n w ws ps s e ks C =
-    let B = fresh-begins given n w ws ps s e in
-    let m : lastState s ks .rec .entries ≤ s .rec .entries + writesOf ks = rw (← chain-run s ks C, ← chain-accepts s ks C) (count-at-most (calls ks) s) in
-    omega (arith, m, B .entries)
+    ap (λ (t : State). t .rec .entries) (sym (chain-run s ks C)) ∙ count-exactly s (fresh-begins given n w ws ps s e) (calls ks) ∙ ap (λ (es : List Fed). entryCount (s .rec .n) (s .rec .w) es) (chain-fed s ks C)

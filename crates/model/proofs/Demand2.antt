@@ -22,7 +22,7 @@ use Rattle.model.specs.Access.{Marks, Write, AssertBuilt}
 use Rattle.model.specs.Step.{State, write, read, assert, check, evaluate, variable, ite, Call, access, nodeCall, place, idle, filled, entered, kept, accepted, valued, node, done, isRefused, Result, refusal, Finish, full, gives, closed, unlessFull, begin, grown, withEntry, withAssertCondition, assertFirst, enter, isIdle, finishAccess, finishNode, finish, turnedDownBy, step, writeBuilt}
 use Rattle.model.specs.Published.{answer, assertHolds, checkHolds, keeps, control}
 use Rattle.model.specs.Claims.{pairAt}
-use Rattle.model.specs.Meanings.{entryValues, addressArgument, wordArgument, Enters, Demand2, EnteredWhere, portValue}
+use Rattle.model.specs.Meanings.{entryValues, addressArgument, wordArgument, Enters, Demand2, portValue}
 use Rattle.model.specs.Table.{MemoryFacts, ReadFacts}
 use Rattle.model.proofs.PairLaws.{T→eq, eq→T}
 use Rattle.model.proofs.MeansLaws.{Means, up, near-self}
@@ -241,8 +241,9 @@ demand2 s a small =
       ite-node = ite-node a small s;
     }
 
-pub entered-where : EnteredWhere
-unfolding EnteredWhere
+-- an assert is entered only where some assignment does not keep it
+pub entered-where : (s : State) (b : ℕ) (a d : List ℕ) → step (access (assert b a d)) s .answer ≡ done entered
+    → (k : ℕ) × (k < 2 ^ 64) × (keeps (s .rec .n) (s .rec .w) (entryValues (bitAt k) s) (value (s .words) (bitAt k) b) (addressArgument (bitAt k) s a) (wordArgument (bitAt k) s d) ≡ false)
 entered-where s b x d q =
     let n : isRefused (step (access (assert b x d)) s .answer) ≡ false = ap isRefused q in
     let X = assert-means 0 (omega arith) s b x d n in

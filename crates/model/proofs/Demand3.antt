@@ -76,16 +76,21 @@ fresh-ports s B σ = record { words = λ p l. record { half = λ i m. rw (held-a
     one : (p i : ℕ) → p < 4 → i < 2 * s .rec .w → Means σ 8 (λ τ. halfOf i (λ k. X)) (s .words) (begin (s .rec)) (getD (replicate 128 1) (p * 32 + i) 0)
     one p i l m = rw (getD-replicate {A = ℕ} 128 (p * 32 + i) 1 0 (omega (arith, l, m, B .wide))) (means-as (one-means 8 (omega arith) (B .standard)) (λ τ. sym (half-X i)))
 
+-- where lists of calls begin, nothing is held
+pub begins-holds : (s : State) → Begins s → (σ : ℕ → Bool) → Holds σ s holdsNothing
+begins-holds s B σ =
+    let t = B .standard .two in
+    record {
+      entries = record { count = sym (B .entries); at = λ j h. absurd (omega (arith, B .entries)) };
+      checked = record { below = omega (arith, B .checked); from = rw (B .checked) (from-1 8 (B .standard) (omega arith)); is = λ f τ k. ap (value (s .words) τ) (B .checked) ∙ value-1 (s .words) τ };
+    }
+
 pub demand3 : Demand3
 unfolding Demand3
 demand3 s B cs a small =
     let n = s .rec .n in
     let w = s .rec .w in
-    let t = B .standard .two in
-    let H : Holds (bitAt a) s holdsNothing = record {
-      entries = record { count = sym (B .entries); at = λ j h. absurd (omega (arith, B .entries)) };
-      checked = record { below = omega (arith, B .checked); from = rw (B .checked) (from-1 8 (B .standard) (omega arith)); is = λ f τ k. ap (value (s .words) τ) (B .checked) ∙ value-1 (s .words) τ };
-    } in
+    let H = begins-holds s B (bitAt a) in
     let P : PortsMean (bitAt a) s (λ p i. X) = fresh-ports s B (bitAt a) in
     let R = traced a small n w cs s holdsNothing holdsNothing refl refl H (ap length (B .ports) ∙ length-replicate {A = ℕ} 128 1) P (same-itself w holdsNothing) in
     let es = events (bitAt a) s cs in

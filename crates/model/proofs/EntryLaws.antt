@@ -12,6 +12,7 @@ use Rattle.model.specs.Pairs.{Pair, X, at}
 use Rattle.model.specs.Record.{size, entryAt}
 use Rattle.model.specs.Step.{State, begin}
 use Rattle.model.specs.Published.{Entry, entry}
+use Rattle.model.specs.Array.{writes}
 use Rattle.model.specs.Claims.{pairs}
 use Rattle.model.specs.Meanings.{entryValue, entriesFrom, entryValues, portValue, addressArgument, wordArgument, Enters}
 use Rattle.model.specs.Held.{Held, add}
@@ -81,7 +82,7 @@ entry-is : (φ : ℕ → Bool) (s : State) (j : ℕ) (e : Entry) → EntryMeans 
 entry-is φ s j e M len = λ i. record { hard = M .hard .is refl φ (near-self φ) i; soft = M .soft .is refl φ (near-self φ) i; address = halves-pairs (e .address) (M .address) refl (M .sized) i; word = halves-pairs (e .word) (M .word) refl len i }
 
 -- each entry of a list has w data pairs
-abbrev Sizes : ℕ → List Entry → Type 0
+abbrev pub Sizes : ℕ → List Entry → Type 0
 Sizes w [] = Unit {0}
 Sizes w (e ∷ es) = (length (e .word) ≡ w) × Sizes w es
 
@@ -90,7 +91,7 @@ size-at w [] S j h = absurd (omega arith)
 size-at w (e ∷ es) S zero h = S .0
 size-at w (e ∷ es) S (suc j) h = size-at w es (S .1) j (omega arith)
 
-sizes-more : (w : ℕ) (es : List Entry) (e : Entry) → Sizes w es → length (e .word) ≡ w → Sizes w (es ++ (e ∷ []))
+pub sizes-more : (w : ℕ) (es : List Entry) (e : Entry) → Sizes w es → length (e .word) ≡ w → Sizes w (es ++ (e ∷ []))
 sizes-more w [] e S h = (h, tt)
 sizes-more w (x ∷ es) e S h = (S .0, sizes-more w es e (S .1) h)
 
@@ -99,7 +100,7 @@ sizes-values φ s j zero = tt
 sizes-values φ s j (suc k) = (length-pairs φ (s .words) _ 0 (s .rec .w), sizes-values φ s (suc j) k)
 
 -- a state that holds these entries has them as values
-holds-are : (φ : ℕ → Bool) (t : State) (h : Held) → Holds φ t h → Sizes (t .rec .w) (h .entries) → entryValues φ t ≡ h .entries
+pub holds-are : (φ : ℕ → Bool) (t : State) (h : Held) → Holds φ t h → Sizes (t .rec .w) (h .entries) → entryValues φ t ≡ h .entries
 holds-are φ t h H S =
     let l = length-entries φ t 0 (t .rec .entries) in
     ext-getD noEntry (entryValues φ t) (h .entries) (l ∙ sym (H .entries .count))
@@ -108,10 +109,10 @@ holds-are φ t h H S =
     entries-at φ t (t .rec .entries) 0 j j m (omega arith) ∙ entry-is φ t j (getD (h .entries) j noEntry) (H .entries .at j m) (size-at (t .rec .w) (h .entries) S j (omega (arith, H .entries .count))))
 
 -- a state that holds one entry more, the published one, has the list with it at the end
-pub holds-enters : (φ : ℕ → Bool) (s t : State) (c : Pair) (a d : List ℕ) → t .rec .w ≡ s .rec .w → Holds φ t (add (held φ s) (entry c (addressArgument φ s a) (wordArgument φ s d))) → Enters φ s t c a d
+pub holds-enters : (φ : ℕ → Bool) (s t : State) (c : Pair) (a d : List ℕ) → t .rec .w ≡ s .rec .w → Holds φ t (add (held φ s) (writes c (addressArgument φ s a) (wordArgument φ s d))) → Enters φ s t c a d
 holds-enters φ s t c a d same H =
     let e = entry c (addressArgument φ s a) (wordArgument φ s d) in
-    holds-are φ t (add (held φ s) e) H (rw same (sizes-more (s .rec .w) (entryValues φ s) e (sizes-values φ s 0 (s .rec .entries)) (length-pairs φ (s .words) d 0 (s .rec .w))))
+    holds-are φ t (add (held φ s) (writes c (addressArgument φ s a) (wordArgument φ s d))) H (rw same (sizes-more (s .rec .w) (entryValues φ s) e (sizes-values φ s 0 (s .rec .entries)) (length-pairs φ (s .words) d 0 (s .rec .w))))
 
 -- and one that holds the same entries has the same list
 pub holds-stays : (φ : ℕ → Bool) (s t : State) (g : ℕ → ℕ → Pair) (b : Bool) → t .rec .w ≡ s .rec .w → Holds φ t (record { entries = entryValues φ s; ports = g; condition = b }) → entryValues φ t ≡ entryValues φ s

@@ -20,7 +20,7 @@ use Rattle.model.specs.Access.{Write, Read, Check}
 use Rattle.model.specs.Rows.{Row, firstRow, users, row1, writeRows, readRows, assertRows, checkRows, evaluateRows, variableRows, iteRows, portsRow}
 use Rattle.model.specs.Step.{State, withWords, write, read, assert, check, evaluate, variable, ite, Call, access, nodeCall, Given, idle, filled, entered, kept, accepted, node, refused, done, isRefused, Filling, fills, fillsNone, filling, Result, refusal, turnedDown, Finish, full, short, gives, closed, unlessFull, begin, grown, withEntry, withAssertCondition, assertFirst, finishAccess, finishNode, finish, turnedDownBy, step, run, fresh, freshRows, freshUnless, freshRecord, withHeld}
 use Rattle.model.specs.Claims.{pairs}
-use Rattle.model.specs.Frames.{clears, wordsAfter, RefusalLeaves, RefusalNumber, Extended, SuccessLeaves, Valid, StaysValid, NoRow123, FreshLeaves, FreshValid, FreshNoRow123, writeOrAssert, acceptedWrites, CountAtMost, numbers, portsAfter, PortsLeft, PortsValid, PortsStayValid, freshState}
+use Rattle.model.specs.Frames.{clears, wordsAfter, RefusalLeaves, RefusalNumber, Extended, SuccessLeaves, Valid, StaysValid, NoRow123, FreshLeaves, FreshValid, FreshNoRow123, numbers, portsAfter, PortsLeft, PortsValid, PortsStayValid, freshState}
 use Rattle.model.proofs.MeansLaws.{Means, user-means}
 use Rattle.model.proofs.AccessLaws.{write-means}
 use Rattle.model.proofs.FactLaws.{row1-tells, names, users-tell, space-room, write-facts, read-facts, check-facts, assert-facts, variable-facts, ite-facts, fresh-told}
@@ -81,7 +81,6 @@ record Leaves (c : Call) (s : State) (x : Result) : Type 0 where
   valid : Valid s → Valid (x .after)
   ports : x .after .ports ≡ portsAfter c (x .answer) (s .ports)
   ports-valid : Valid s → PortsValid s → PortsValid (x .after)
-  entries : x .after .rec .entries ≤ s .rec .entries + acceptedWrites (x .answer)
 
 -- any assignment would do: a node that means something is below the count and on no index variable
 abbrev σ : ℕ → Bool
@@ -124,7 +123,6 @@ module _ (c : Call) (s : State) where
         valid = left-valid (clears k);
         ports = refused-ports c k (s .ports);
         ports-valid = λ H P. left-ports (clears k) P;
-        entries = omega arith;
       }
 
   turned-leaves : (k : ℕ) → refusal c s ≡ suc k → Leaves c s (turnedDown (suc k) s)
@@ -145,21 +143,21 @@ module _ (c : Call) (s : State) where
   nine-leaves : {A : Type 0} (x : Outcome A) (k : A → List ℕ → ℕ → Finish) → (x .store .full ≡ false → Leaves c s (closed s (k (x .answer) (x .words) (x .store .count)))) → Leaves c s (closed s (unlessFull x k))
   nine-leaves x k f = of-program (λ (z : Finish). Leaves c s (closed s z)) x k (λ e. full-leaves (x .store)) f
 
-  done-leaves : (g : Given) (t : State) → Extended s t → (Valid s → Valid t) → t .ports ≡ portsAfter c (done g) (s .ports) → (Valid s → PortsValid s → PortsValid t) → t .rec .entries ≤ s .rec .entries + writeOrAssert g → Leaves c s (closed s (gives g t))
+  done-leaves : (g : Given) (t : State) → Extended s t → (Valid s → Valid t) → t .ports ≡ portsAfter c (done g) (s .ports) → (Valid s → PortsValid s → PortsValid t) → Leaves c s (closed s (gives g t))
   unfolding closed
-  done-leaves g t E H p P l = record { refuses = λ k e. absurd (true≢false (sym (ap isRefused e))); extended = λ e. E; valid = H; ports = p; ports-valid = P; entries = l }
+  done-leaves g t E H p P = record { refuses = λ k e. absurd (true≢false (sym (ap isRefused e))); extended = λ e. E; valid = H; ports = p; ports-valid = P }
 
   module _ (g : Given) (still : s .ports ≡ portsAfter c (done g) (s .ports)) (w : List ℕ) (n : ℕ) (E : Extends (s .words) (s .rec .count) w n) (S : Standard w n) where
     conditions-leave : (v u : ℕ) → (User s (s .rec .asserted) → isUser w n v ≡ true) → (User s (s .rec .checked) → isUser w n u ≡ true) → Leaves c s (closed s (gives g (withConditions s w n v u)))
-    conditions-leave v u A C = done-leaves g (withConditions s w n v u) (conditions-extended s w n v u E) (conditions-valid s w n v u (user-grows E) S A C) still (λ H P. ports-stay s w n v u (user-grows E) P) (omega arith)
+    conditions-leave v u A C = done-leaves g (withConditions s w n v u) (conditions-extended s w n v u E) (conditions-valid s w n v u (user-grows E) S A C) still (λ H P. ports-stay s w n v u (user-grows E) P)
 
     -- one entry more, and what its Write built
-    entry-leaves : writeOrAssert g ≡ 1 → (v : ℕ) → (User s (s .rec .asserted) → isUser w n v ≡ true) → (h l : ℕ) → isUser w n h ≡ true → isUser w n l ≡ true → (a d : List ℕ) → length a ≡ 2 * s .rec .n → length d ≡ 2 * s .rec .w
+    entry-leaves : (v : ℕ) → (User s (s .rec .asserted) → isUser w n v ≡ true) → (h l : ℕ) → isUser w n h ≡ true → isUser w n l ≡ true → (a d : List ℕ) → length a ≡ 2 * s .rec .n → length d ≡ 2 * s .rec .w
         → users (s .rec) (s .words) a ≡ true → users (s .rec) (s .words) d ≡ true → s .rec .entries < listCapacity (s .rec) (s .list)
         → let x = Write (s .rec .n) h l a w (record { count = n; full = false }) in
         Leaves c s (closed s (gives g (withEntry (withAssertCondition (grown s (x .words) (x .store .count)) v) (x .answer) a d)))
     unfolding listCapacity portsRow
-    entry-leaves one v A h l uh ul a d na wd ua ud room =
+    entry-leaves v A h l uh ul a d na wd ua ud room =
         let r = withAssertCondition (grown s w n) v .rec in
         let X = write-means (s .rec .n) h l a (record { h = value w σ h; l = value w σ l }) (pairs σ w a (s .rec .n)) [] (length-pairs σ w a 0 (s .rec .n)) w (begin r) S (user-means {s = begin r} S uh) (user-means {s = begin r} S ul)
         (names-halves σ r w S a (s .rec .n) (users-tell r w a (2 * s .rec .n) na .is (users-stay s w n v (s .rec .checked) (user-grows E) a ua))) in
@@ -170,7 +168,7 @@ module _ (c : Call) (s : State) where
         done-leaves _ _ (entry-extended s (x .words) m v u F (x .answer) a d na wd room)
         (λ H. entry-valid (withAssertCondition (grown s (x .words) m) v) (x .answer) a d na wd room (means-user (X .post .hard)) (means-user (X .post .soft)) (users-stay s (x .words) m v u (user-grows F) a ua) (users-stay s (x .words) m v u (user-grows F) d ud)
         (conditions-valid s (x .words) m v u (user-grows F) (X .standard) (λ z. user-grows (X .extends) v (A z)) (user-grows F u) H))
-        still (λ H P. let Q = ports-stay s (x .words) m v u (user-grows F) P in record { three = Q .three; long = Q .long }) (omega arith)
+        still (λ H P. let Q = ports-stay s (x .words) m v u (user-grows F) P in record { three = Q .three; long = Q .long })
 
   -- a program that leaves nothing but its nodes and its answer
   grown-leaves : {A : Type 0} {P : List ℕ → Store → A → Type 0} {x : Outcome A} → Builds (s .words) (begin (s .rec)) P x → (k : A → Given) → ((a : A) → s .ports ≡ portsAfter c (done (k a)) (s .ports)) → Leaves c s (closed s (unlessFull x (λ a w n. gives (k a) (grown s w n))))
@@ -181,7 +179,7 @@ module _ (c : Call) (s : State) where
   -- what answers, and leaves the state as it was
   same-leaves : (g : Given) → s .ports ≡ portsAfter c (done g) (s .ports) → Leaves c s (closed s (gives g s))
   same-leaves g still =
-      done-leaves g s (conditions-extended s (s .words) (s .rec .count) (s .rec .asserted) (s .rec .checked) (extends-refl (s .words) (s .rec .count))) (λ H. H) still (λ H P. P) (omega arith)
+      done-leaves g s (conditions-extended s (s .words) (s .rec .count) (s .rec .asserted) (s .rec .checked) (extends-refl (s .words) (s .rec .count))) (λ H. H) still (λ H P. P)
 
 -- a call that no row refuses
 finish-leaves : (c : Call) (s : State) → refusal c s ≡ 0 → Leaves c s (closed s (finish c s))
@@ -190,7 +188,7 @@ finish-leaves (access (write c a d)) s e =
     let F = write-facts s c a d e in
     let r = s .rec in
     of-write (λ (z : Finish). Leaves (access (write c a d)) s (closed s z)) c a d s (λ i. same-leaves (access (write c a d)) s idle refl) (λ i f. full-leaves (access (write c a d)) s _)
-    (λ i f room. entry-leaves (access (write c a d)) s _ refl (s .words) (r .count) (extends-refl (s .words) (r .count)) (F .memory .standard) refl (r .asserted) (λ u. u)
+    (λ i f room. entry-leaves (access (write c a d)) s _ refl (s .words) (r .count) (extends-refl (s .words) (r .count)) (F .memory .standard) (r .asserted) (λ u. u)
     (getD c 0 0) (getD c 1 0) (names r (s .words) _ .so (F .enable .names 0 (omega arith))) (names r (s .words) _ .so (F .enable .names 1 (omega arith))) a d (F .address .long) (F .word .long)
     (users-tell r (s .words) a (2 * r .n) (F .address .long) .so (F .address .names)) (users-tell r (s .words) d (2 * r .w) (F .word .long) .so (F .word .names)) (space-room r (s .words) (s .list) room))
     (λ i f room. short-leaves (access (write c a d)) s)
@@ -207,7 +205,7 @@ finish-leaves (access (read p en a out)) s e =
     let C = conditions-valid s (x .words) (x .store .count) (r .asserted) (r .checked) (user-grows (X .extends)) (X .standard) (user-grows (X .extends) (r .asserted)) (user-grows (X .extends) (r .checked)) H in
     record { one = C .one; two = C .two; three = C .three }) refl
     (λ H P. latched-valid (grown s (x .words) (x .store .count)) p (x .answer) (F .memory .range .w-most) (F .port) (X .post .size) (λ i m. means-user (X .post .halves .half i m))
-    (ports-stay s (x .words) (x .store .count) (r .asserted) (r .checked) (user-grows (X .extends)) P)) (omega arith))
+    (ports-stay s (x .words) (x .store .count) (r .asserted) (r .checked) (user-grows (X .extends)) P)))
 finish-leaves (access (assert b a d)) s e =
     let K = assert-facts s b a d e .compared in
     let r = s .rec in
@@ -219,7 +217,7 @@ finish-leaves (access (assert b a d)) s e =
     of-assert (λ (z : Finish). Leaves c s (closed s z)) b a d s (λ f. full-leaves c s _)
     (λ f k. conditions-leave c s kept refl (x .words) n (X .extends) (X .standard) v (r .checked) (λ u. means-user (X .post .condition)) (user-grows (X .extends) (r .checked)))
     (λ f k room. short-leaves c s) (λ f k room g. full-leaves c s _)
-    (λ f k room g. entry-leaves c s entered refl (x .words) n (X .extends) (X .standard) refl v (λ u. means-user (X .post .condition)) b (x .answer .notB) (user-grows (X .extends) b (names r (s .words) b .so (K .control))) (means-user (X .post .notB))
+    (λ f k room g. entry-leaves c s entered refl (x .words) n (X .extends) (X .standard) v (λ u. means-user (X .post .condition)) b (x .answer .notB) (user-grows (X .extends) b (names r (s .words) b .so (K .control))) (means-user (X .post .notB))
     a d (K .address .long) (K .word .long) (users-tell r (s .words) a (2 * r .n) (K .address .long) .so (K .address .names)) (users-tell r (s .words) d (2 * r .w) (K .word .long) .so (K .word .names)) (space-room r (s .words) (s .list) room))
 finish-leaves (access (check b a d)) s e =
     let X = check-program σ s b a d (check-facts s b a d e) in
@@ -313,11 +311,6 @@ fresh-valid given n w ws ps l e = go (freshRows n w ws) refl e
 pub fresh-no-row-123 : FreshNoRow123
 unfolding FreshNoRow123 FreshValid NoRow123
 fresh-no-row-123 given n w ws ps l e cs c k = let F = fresh-valid given n w ws ps l e in no-row-123 cs c (freshState given n w ws ps l) k (F .0) (F .1)
-
-pub count-at-most : CountAtMost
-unfolding CountAtMost run
-count-at-most [] s = omega arith
-count-at-most (c ∷ cs) s = omega (arith, step-leaves c s .entries, count-at-most cs (step c s .after))
 
 -- the words of a filled read, of n words
 abbrev WordBelow : Filling → ℕ → ℕ → Type 0

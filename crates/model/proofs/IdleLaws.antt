@@ -8,7 +8,7 @@ use lib.ListN.{getD}
 use Rattle.model.specs.Step.{State, write, read, assert, check, evaluate, variable, ite, Call, access, nodeCall, Given, place, idle, filled, entered, kept, accepted, valued, node, Answer, refused, done, Result, refusal, Finish, full, short, gives, closed, isIdle, finishAccess, finishNode, finish, turnedDownBy, step}
 use Rattle.model.specs.Frames.{isWrite, IdleLeaves}
 use Rattle.model.specs.Table.{WriteFacts, NeverOne, MayBeOne, IdleExactly}
-use Rattle.model.specs.Meanings.{KeptWhereNever, EnteredWhere}
+use Rattle.model.specs.Meanings.{KeptWhereNever}
 use Rattle.model.proofs.TerminalLaws.{node-0-alone, somewhere-true, idle-zero, other-not-zero}
 use Rattle.model.proofs.FactLaws.{write-facts}
 use Rattle.model.proofs.FinishLaws.{of-program, of-write, of-assert}
@@ -79,7 +79,7 @@ idle-leaves c s e = go (refusal c s) e
     go (suc k) e = absurd (false≢true (ap answersIdle e))
 
 pub kept-where-never : KeptWhereNever
-unfolding KeptWhereNever EnteredWhere
+unfolding KeptWhereNever
 kept-where-never s b a d n never =
     kept-or-entered s b a d n (λ e. ap (λ (x : Result). x .answer) e)
     (λ t f e. let m = entered-where s b a d (ap (λ (x : Result). x .answer) e) in absurd (true≢false (rw (never (m .0) (m .1)) at (m .2))))

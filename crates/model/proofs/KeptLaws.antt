@@ -22,7 +22,7 @@ bool-same true false f g = absurd (f tt)
 bool-same false true f g = absurd (g tt)
 bool-same false false f g = refl
 
-pair-same : (p q : Pair) → ((b : Bool) → T (admit p b) → T (admit q b)) → ((b : Bool) → T (admit q b) → T (admit p b)) → p ≡ q
+pub pair-same : (p q : Pair) → ((b : Bool) → T (admit p b) → T (admit q b)) → ((b : Bool) → T (admit q b) → T (admit p b)) → p ≡ q
 pair-same p q f g =
     let hs : p .h ≡ q .h = bool-same (p .h) (q .h) (f true) (g true) in
     let ls : p .l ≡ q .l = bool-same (p .l) (q .l) (f false) (g false) in

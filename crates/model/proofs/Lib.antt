@@ -18,10 +18,12 @@ pub mod Demand2
 pub mod ValidLaws
 pub mod FrameLaws
 pub mod Demand3
+pub mod IdleLaws
+pub mod CountLaws
+pub mod BudgetLaws
 pub mod ChainLaws
 pub mod RulingLaws
 pub mod StayLaws
-pub mod IdleLaws
 pub mod UnseenLaws
 pub mod NineLaws
 pub mod TableLaws

@@ -1,9 +1,9 @@
--- Of the calls as they ran: what a call promises, and demand 3 and the count of entries of every chain of states and answers in which each call met its promise.
+-- Of the calls as they ran: what a call promises, and demand 3 of every chain of states and answers in which each call met its promise.
 use mathlib.Core.Path.{_≡_}
 use mathlib.Core.Logic.{_↔_}
 use mathlib.Core.Bool.{Bool}
 use mathlib.Core.List.{List, [], _∷_}
-use Prim.Native.Nat.{ℕ, zero, suc, _+_, _^_, _<_, _≤_}
+use Prim.Native.Nat.{ℕ, zero, suc, _^_, _<_}
 use lib.Dec.{T}
 use Rattle.conditions.specs.Value.{value}
 use Rattle.conditions.specs.Assignment.{bitAt}
@@ -11,8 +11,7 @@ use Rattle.model.specs.Record.{Record}
 use Rattle.model.specs.Step.{State, Access, NodeCall, Call, access, nodeCall, accepted, Answer, refused, done, Result, step, Fresh, fresh}
 use Rattle.model.specs.Pairs.{bit}
 use Rattle.model.specs.Array.{Event, Run, observed, lastMemory, Returns, Allowed}
-use Rattle.model.specs.Claims.{event, BitMay, HeldMay}
-use Rattle.model.specs.Frames.{acceptedWrites}
+use Rattle.model.specs.Claims.{event, Fed, under, BitMay, HeldMay}
 
 -- a call takes a state to the next, with this answer
 abbrev pub Answered : Call → State → State → Answer → Type 0
@@ -49,9 +48,12 @@ lastState s [] = s
 lastState s (k ∷ ks) = lastState (k .after) ks
 
 -- what the array is fed: "each call with its arguments, and which calls were refused"
+abbrev pub fedOf : State → List Link → List Fed
+fedOf s [] = []
+fedOf s (k ∷ ks) = (λ φ. event φ s (k .call) (k .answer)) ∷ fedOf (k .after) ks
+
 abbrev pub eventsOf : (ℕ → Bool) → State → List Link → List Event
-eventsOf φ s [] = []
-eventsOf φ s (k ∷ ks) = event φ s (k .call) (k .answer) ∷ eventsOf φ (k .after) ks
+eventsOf φ s ks = under φ (fedOf s ks)
 
 -- link j is an accepted read, bit i of whose answer may be b, "in its answer words and the node words as that read left them"
 abbrev pub MayBe : (ℕ → Bool) → List Link → ℕ → ℕ → Bool → Type 0
@@ -73,14 +75,3 @@ unfoldable pub ChainExactly : Type 0
 ChainExactly =
     (given : Record) (n w : ℕ) (ws ps : List ℕ) (s : State) → freshed (fresh given n w ws ps) ≡ (done accepted, s .rec, s .words, s .ports)
     → (ks : List Link) → Chained s ks → (a : ℕ) → a < 2 ^ 64 → ExactlyRuns s ks (bitAt a)
-
--- the accepted writes and asserts of a chain, by its answers
-abbrev pub writesOf : List Link → ℕ
-writesOf [] = 0
-writesOf (k ∷ ks) = acceptedWrites (k .answer) + writesOf ks
-
--- "The entry count is at most accepted writes plus accepted asserts.", idle writes not counted
-unfoldable pub ChainCount : Type 0
-ChainCount =
-    (given : Record) (n w : ℕ) (ws ps : List ℕ) (s : State) → freshed (fresh given n w ws ps) ≡ (done accepted, s .rec, s .words, s .ports)
-    → (ks : List Link) → Chained s ks → lastState s ks .rec .entries ≤ writesOf ks

@@ -39,9 +39,21 @@ event φ s c (refused k) = nothing
 event φ s (access c) (done g) = argument φ s c
 event φ s (nodeCall c) (done g) = nothing
 
+-- a call as the array is fed it, under each assignment, and the calls of a list
+abbrev pub Fed : Type 0
+Fed = (ℕ → Bool) → Event
+
+abbrev pub fed : State → List Call → List Fed
+fed s [] = []
+fed s (c ∷ cs) = (λ φ. event φ s c (step c s .answer)) ∷ fed (step c s .after) cs
+
+-- under one
+abbrev pub under : (ℕ → Bool) → List Fed → List Event
+under φ [] = []
+under φ (e ∷ es) = e φ ∷ under φ es
+
 abbrev pub events : (ℕ → Bool) → State → List Call → List Event
-events φ s [] = []
-events φ s (c ∷ cs) = event φ s c (step c s .answer) ∷ events φ (step c s .after) cs
+events φ s cs = under φ (fed s cs)
 
 -- "A read's answer is judged in its answer words and the node words as that read left them": bit i of it may be b
 abbrev pub FillingMay : (ℕ → Bool) → List ℕ → Filling → ℕ → Bool → Type 0

@@ -1,15 +1,15 @@
--- 01, 'Turned down': what a refusal and a success leave, and that a valid state stays valid. And the count of entries.
+-- 01, 'Turned down': what a refusal and a success leave, and that a valid state stays valid.
 use mathlib.Core.Path.{_≡_}
 use mathlib.Core.Bool.{Bool, true, false, _&&_, _||_}
-use mathlib.Core.List.{List, [], _∷_}
-use Prim.Native.Nat.{ℕ, zero, suc, _+_, _*_, _<_, _≤_}
+use mathlib.Core.List.{List}
+use Prim.Native.Nat.{ℕ, suc, _*_, _<_, _≤_}
 use lib.Dec.{eqb, leb}
 use lib.ListN.{length, getD, replicate}
 use Rattle.conditions.specs.Stores.{capacityOf, withTerminals, Extends, clearOf}
 use Rattle.conditions.specs.declared.Store.{Store}
 use Rattle.model.specs.Record.{Record, size, replaced}
 use Rattle.model.specs.Rows.{row1, row2, row3, portsRow}
-use Rattle.model.specs.Step.{State, withWords, Access, write, read, assert, check, Call, access, nodeCall, Given, place, idle, filled, entered, kept, accepted, valued, node, Answer, refused, done, isRefused, Filling, fills, fillsNone, filling, refusal, Finish, full, short, gives, finish, step, run, fresh, withPorts}
+use Rattle.model.specs.Step.{State, withWords, write, read, assert, check, Call, access, nodeCall, idle, Answer, refused, done, isRefused, Filling, fills, fillsNone, filling, refusal, Finish, full, short, gives, finish, step, run, fresh, withPorts}
 
 -- "After 9, or 8 in an assert, all node words from the count to capacity are 0; otherwise untouched."; 02: "8 clears node words as 9 does", in a write too
 abbrev pub clears : ℕ → Bool
@@ -157,26 +157,3 @@ unfoldable pub FreshNoRow123 : Type 0
 FreshNoRow123 =
     (given : Record) (n w : ℕ) (ws ps l : List ℕ) → fresh given n w ws ps .answer ≡ 0 → (cs : List Call) (c : Call) (k : ℕ)
     → step c (run cs (freshState given n w ws ps l)) .answer ≡ refused k → 4 ≤ k
-
--- one for an accepted write that is not idle and for an accepted assert, by what it gives
-abbrev pub writeOrAssert : Given → ℕ
-writeOrAssert (place k) = 1
-writeOrAssert idle = 0
-writeOrAssert (filled r) = 0
-writeOrAssert entered = 1
-writeOrAssert kept = 1
-writeOrAssert accepted = 0
-writeOrAssert (valued b) = 0
-writeOrAssert (node n) = 0
-
-abbrev pub acceptedWrites : Answer → ℕ
-acceptedWrites (refused k) = 0
-acceptedWrites (done g) = writeOrAssert g
-
-abbrev pub accepts : List Call → State → ℕ
-accepts [] s = 0
-accepts (c ∷ cs) s = acceptedWrites (step c s .answer) + accepts cs (step c s .after)
-
--- "The entry count is at most accepted writes plus accepted asserts.", idle writes not counted
-unfoldable pub CountAtMost : Type 0
-CountAtMost = (cs : List Call) (s : State) → run cs s .rec .entries ≤ s .rec .entries + accepts cs s

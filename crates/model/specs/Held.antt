@@ -19,8 +19,16 @@ pub record Held : Type 0 where
 abbrev pub holdsNothing : Held
 holdsNothing = record { entries = []; ports = λ p i. X; condition = true }
 
-abbrev pub add : Held → Entry → Held
-add s e = record { entries = s .entries ++ (e ∷ []); ports = s .ports; condition = s .condition }
+-- the published list after an event: each accepted write and assert is entered. One that is idle or kept would change no cell (`idle-same`, `kept-same`)
+abbrev pub entriesAfter : List Entry → Event → List Entry
+entriesAfter es (writes c a d) = es ++ (entry c a d ∷ [])
+entriesAfter es (reads p e a) = es
+entriesAfter es (asserts b a d) = es ++ (entry (control b) a d ∷ [])
+entriesAfter es (checks b a d) = es
+entriesAfter es nothing = es
+
+abbrev pub add : Held → Event → Held
+add s e = record { entries = entriesAfter (s .entries) e; ports = s .ports; condition = s .condition }
 
 -- "each port's held word is replaced by the read that uses it"
 abbrev pub hold : Held → ℕ → (ℕ → Pair) → Held
@@ -29,11 +37,10 @@ hold s p word = record { entries = s .entries; ports = λ q. cond (eqb q p) word
 abbrev pub demand : Held → Bool → Held
 demand s c = record { entries = s .entries; ports = s .ports; condition = s .condition && c }
 
--- Each accepted write and assert is entered: a write that is idle and an assert that is kept would change no cell (`idle-same`, `kept-same`).
 abbrev pub heldAfter : ℕ → ℕ → Held → Event → Held
-heldAfter n w s (writes c a d) = add s (entry c a d)
+heldAfter n w s (writes c a d) = add s (writes c a d)
 heldAfter n w s (reads p e a) = hold s p (answer n (s .entries) (s .ports p) e a)
-heldAfter n w s (asserts b a d) = add s (entry (control b) a d)
+heldAfter n w s (asserts b a d) = add s (asserts b a d)
 heldAfter n w s (checks b a d) = demand s (checkHolds n w (s .entries) b a d)
 heldAfter n w s nothing = s
 

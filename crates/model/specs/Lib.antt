@@ -10,6 +10,7 @@ pub mod Claims
 pub mod Meanings
 pub mod Frames
 pub mod Chain
+pub mod Count
 pub mod Rulings
 pub mod Table
 pub mod Orders

@@ -80,9 +80,3 @@ unfoldable pub KeptWhereNever : Type 0
 KeptWhereNever =
     (s : State) (b : ℕ) (a d : List ℕ) → isRefused (step (access (assert b a d)) s .answer) ≡ false → ((k : ℕ) → k < 2 ^ 64 → value (s .words) (bitAt k) b ≡ false)
     → step (access (assert b a d)) s .answer ≡ done kept
-
--- an assert is entered only where some assignment does not keep it
-unfoldable pub EnteredWhere : Type 0
-EnteredWhere =
-    (s : State) (b : ℕ) (a d : List ℕ) → step (access (assert b a d)) s .answer ≡ done entered
-    → (k : ℕ) × (k < 2 ^ 64) × (keeps (s .rec .n) (s .rec .w) (entryValues (bitAt k) s) (value (s .words) (bitAt k) b) (addressArgument (bitAt k) s a) (wordArgument (bitAt k) s d) ≡ false)
