@@ -45,34 +45,6 @@ def with_wrong(place, name, wrong):
     right()
 
 
-def forgets_held_word():
-    with_wrong(Memory, "read", wrongreads.forgets_held_word)
-
-
-def holds_across_ports():
-    with_wrong(Memory, "read", wrongreads.holds_across_ports)
-
-
-def enters_idle_writes():
-    """A write that is idle gets a place."""
-    with_wrong(Memory, "write", wrongwrites.idle_entered)
-
-
-def counts_idle_writes():
-    """A write that is idle is printed so, and counted in the last line."""
-    with_wrong(entrycount, "write_counts", wrongcounts.idle_counted)
-
-
-def counts_kept_asserts():
-    """An assert that is kept is printed so, and counted in the last line."""
-    with_wrong(entrycount, "assert_counts", wrongcounts.kept_counted)
-
-
-def counts_asserts_outside_b():
-    """An assert is counted also where its data differs from the look only where b does not hold."""
-    with_wrong(entrycount, "assert_counts", wrongcounts.counted_outside_b)
-
-
 def hangs():
     time.sleep(1000)
 
@@ -143,11 +115,29 @@ def writes_nothing():
     sys.stdin.buffer.read()
 
 
-WAYS = [right, loses_unknown, forgets_held_word, holds_across_ports, enters_idle_writes, counts_idle_writes,
-        counts_kept_asserts, counts_asserts_outside_b, hangs, hangs_after_text, hangs_with_output_closed, leaves_child,
-        ends_by_signal, ends_with_status, ends_with_status_after_text, writes_without_end, complains,
-        complains_without_end, breaks_off, refuses_after_text, reads_nothing, writes_nothing]
+# The wrong function of each simulator that has one.
+WRONG = {
+    "forgets-held-word": (Memory, "read", wrongreads.forgets_held_word),
+    "holds-across-ports": (Memory, "read", wrongreads.holds_across_ports),
+    # An idle write gets a place; or it is printed as idle, and counted in the last line.
+    "enters-idle-writes": (Memory, "write", wrongwrites.idle_entered),
+    "counts-idle-writes": (entrycount, "write_counts", wrongcounts.idle_counted),
+    # Asserts that are printed as kept, and counted in the last line: all; those that differ where b does not hold.
+    "counts-kept-asserts": (entrycount, "assert_counts", wrongcounts.kept_counted),
+    "counts-asserts-outside-b": (entrycount, "assert_counts", wrongcounts.counted_outside_b),
+}
+
+WAYS = [right, loses_unknown, hangs, hangs_after_text, hangs_with_output_closed, leaves_child, ends_by_signal,
+        ends_with_status, ends_with_status_after_text, writes_without_end, complains, complains_without_end, breaks_off,
+        refuses_after_text, reads_nothing, writes_nothing]
+
+
+def main(way):
+    if way in WRONG:
+        with_wrong(*WRONG[way])
+    else:
+        {function.__name__.replace("_", "-"): function for function in WAYS}[way]()
 
 
 if __name__ == "__main__":
-    {way.__name__.replace("_", "-"): way for way in WAYS}[sys.argv[1]]()
+    main(sys.argv[1])

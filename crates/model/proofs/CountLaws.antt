@@ -1,88 +1,33 @@
 -- The entry count: a call adds an entry where its access adds one under some assignment, and so a list of calls from a fresh memory has as many as its accesses.
-use mathlib.Core.Path.{_≡_, refl, sym, ap, _∙_, subst, subst₂}
+use mathlib.Core.Path.{_≡_, refl, sym, ap, _∙_, subst}
 use mathlib.Core.Bool.{Bool, true, false, _&&_, _||_, not, cond, true≢false, false≢true, Bool·beq}
 use mathlib.Core.List.{List, [], _∷_}
 use Prim.Native.Nat.{ℕ, zero, suc, _+_, _^_, _<_}
 use native.Mathlib.Omega.{arith}
-use native.Mathlib.Decide.{decLt}
 use lib.Dec.{T}
-use Rattle.nodes.proofs.BoolLaws.{split, iff-same, and-both, both-and, or-left, or-right}
+use Rattle.nodes.proofs.BoolLaws.{split, and-both, both-and}
 use Rattle.conditions.specs.Value.{value}
 use Rattle.conditions.specs.Assignment.{bitAt}
-use Rattle.conditions.proofs.Promises.{numberOf, bit-number, number-fits}
 use Rattle.model.specs.Pairs.{Pair, at, admit}
-use Rattle.model.specs.Published.{Entry, entry, control, look, inside, keeps}
+use Rattle.model.specs.Published.{Entry, look, inside, keeps}
 use Rattle.model.specs.Array.{Event, writes, reads, asserts, checks, nothing}
-use Rattle.model.specs.Held.{Held, holdsNothing, entriesAfter, heldAfter, Accepted}
-use Rattle.model.specs.Count.{someBelow, underSome, SomeExactly, samePair, differs, addsEntry, newEntries, entryCountFrom, EntryExactly, KeptExactly, entriesAfterAll, LookIsList, CountExactly, accessesByHand, ofVariable8, CountedByHand}
+use Rattle.model.specs.Held.{entriesAfter}
+use Rattle.model.specs.Count.{underSome, SomeExactly, samePair, differs, addsEntry, newEntries, entryCountFrom, EntryExactly, KeptExactly, CountExactly, accessesByHand, ofVariable8, CountedByHand}
 use Rattle.model.specs.Step.{State, write, read, assert, check, evaluate, variable, ite, Call, access, nodeCall, Answer, refused, entered, kept, done, isRefused, Result, Finish, closed, finishAccess, finishNode, finish, step, run}
-use Rattle.model.specs.Claims.{argument, event, Fed, fed, events, Begins}
+use Rattle.model.specs.Claims.{argument, event, Fed, fed}
 use Rattle.model.specs.Frames.{isWrite, isAssert, RefusalLeaves}
 use Rattle.model.specs.Meanings.{entryValues, addressArgument, wordArgument, Demand2}
-use Rattle.model.proofs.PairLaws.{T→eq, eq→T, beq-refl, inside-to, inside-from}
+use Rattle.model.proofs.PairLaws.{not-or, T→eq, eq→T, beq-refl, beq-eq, inside-to, inside-from}
 use Rattle.model.proofs.KeptLaws.{SameCells, same-look, pair-same}
-use Rattle.model.proofs.StepLaws.{isLeftOut, listAfter, same-list, Holds, pair-is, step-follows}
+use Rattle.model.proofs.StepLaws.{isLeftOut, pair-is}
 use Rattle.model.proofs.TerminalLaws.{idle-off}
 use Rattle.model.proofs.FinishLaws.{of-program}
 use Rattle.model.proofs.FactLaws.{write-facts}
 use Rattle.model.proofs.FrameLaws.{refusal-leaves}
 use Rattle.model.proofs.Demand2.{acts, idle-or-entered, kept-or-entered, demand2, entered-where}
-use Rattle.model.proofs.Demand3.{begins-holds}
 use Rattle.model.proofs.IdleLaws.{not-idle-may}
-use Rattle.model.proofs.EntryLaws.{Sizes, sizes-more, holds-are}
-
-or-none : (a b : Bool) → (not a || b) ≡ false → (a ≡ true) × (b ≡ false)
-or-none true b e = (refl, e)
-or-none false b e = absurd (true≢false e)
-
-not-false : (a : Bool) → (a ≡ false → ⊥) → a ≡ true
-not-false true f = refl
-not-false false f = absurd (f refl)
-
-beq-eq : (a b : Bool) → Bool·beq a b ≡ true → a ≡ b
-beq-eq true true e = refl
-beq-eq true false e = absurd (false≢true e)
-beq-eq false true e = absurd (false≢true e)
-beq-eq false false e = refl
-
--- 'some', below any bound
-some-to : (k : ℕ) (f : ℕ → Bool) → someBelow k f ≡ true → (a : ℕ) × (a < k) × (f a ≡ true)
-unfolding someBelow
-some-to zero f e = absurd (false≢true e)
-some-to (suc k) f e = split (f k) (λ t. (k, omega arith, t)) (λ t. let m = some-to k f (rw t at e) in (m .0, omega (arith, m .1), m .2))
-
-some-from : (k : ℕ) (f : ℕ → Bool) (a : ℕ) → a < k → f a ≡ true → someBelow k f ≡ true
-unfolding someBelow
-some-from zero f a l e = absurd (omega arith)
-some-from (suc k) f a l e = go (λ p. some-from k f a p e) (decLt a k)
-  where
-    go : (a < k → someBelow k f ≡ true) → Dec (a < k) → (f k || someBelow k f) ≡ true
-    go rest (yes p) = or-right (f k) (someBelow k f) (rest p)
-    go rest (no p) = let z : a ≡ k = omega arith in rw (← z, e)
-
-pub some-exactly : SomeExactly
-unfolding SomeExactly underSome
-some-exactly f = (λ e. some-to (2 ^ 64) (λ a. f (bitAt a)) e, λ m. some-from (2 ^ 64) (λ a. f (bitAt a)) (m .0) (m .1) (m .2))
-
-module _ (f : (ℕ → Bool) → Bool) where
-  -- none
-  some-none : ((a : ℕ) → a < 2 ^ 64 → f (bitAt a) ≡ false) → underSome f ≡ false
-  unfolding SomeExactly
-  some-none none = split (underSome f) (λ t. let m = some-exactly f .0 t in absurd (true≢false (sym (m .2) ∙ none (m .0) (m .1)))) (λ t. t)
-
-  -- a number is that of the entries with what a call adds to them
-  none-new : (t k : ℕ) → ((a : ℕ) → a < 2 ^ 64 → f (bitAt a) ≡ false) → t ≡ k → t ≡ k + cond (underSome f) 1 0
-  none-new t k none e = rw (some-none none) (omega (arith, e))
-
-  one-new : (t k a : ℕ) → a < 2 ^ 64 → f (bitAt a) ≡ true → t ≡ k + 1 → t ≡ k + cond (underSome f) 1 0
-  unfolding SomeExactly
-  one-new t k a small is e = rw (some-exactly f .1 (a, small, is)) (omega (arith, e))
-
-some-as : (f g : (ℕ → Bool) → Bool) → ((a : ℕ) → a < 2 ^ 64 → f (bitAt a) ≡ g (bitAt a)) → underSome f ≡ underSome g
-unfolding SomeExactly
-some-as f g same =
-    iff-same (underSome f) (underSome g) (λ e. let m = some-exactly f .0 e in some-exactly g .1 (m .0, m .1, sym (same (m .0) (m .1)) ∙ m .2))
-    (λ e. let m = some-exactly g .0 e in some-exactly f .1 (m .0, m .1, same (m .0) (m .1) ∙ m .2))
+use Rattle.model.proofs.SomeLaws.{some-exactly, some-none, some-as, some-of-8}
+use Rattle.model.proofs.AgreeLaws.{Agrees, agrees-values, agrees-next, begins-agrees}
 
 -- two words that differ in no bit are the same
 same-pair : (p q : Pair) → samePair p q ≡ true → p ≡ q
@@ -97,8 +42,8 @@ differs-none (suc k) d r same = rw (same 0 (omega arith), pair-itself (r 0)) (di
 
 same-word : (w : ℕ) (d r : ℕ → Pair) → differs w d r ≡ false → (i : ℕ) → i < w → d i ≡ r i
 same-word zero d r e i l = absurd (omega arith)
-same-word (suc k) d r e zero l = same-pair (d 0) (r 0) (or-none (samePair (d 0) (r 0)) _ e .0)
-same-word (suc k) d r e (suc i) l = same-word k (λ i. d (suc i)) (λ i. r (suc i)) (or-none (samePair (d 0) (r 0)) _ e .1) i (omega arith)
+same-word (suc k) d r e zero l = same-pair (d 0) (r 0) (not-or (samePair (d 0) (r 0)) _ e .0)
+same-word (suc k) d r e (suc i) l = same-word k (λ i. d (suc i)) (λ i. r (suc i)) (not-or (samePair (d 0) (r 0)) _ e .1) i (omega arith)
 
 -- an assert that its look keeps adds no entry, and one that adds none is kept
 kept-none : (n w : ℕ) (es : List Entry) (b : Bool) (a d : List Pair) → keeps n w es b a d ≡ true → addsEntry n w es (asserts b a d) ≡ false
@@ -114,6 +59,9 @@ none-kept n w es true a d e =
     both-and (T→eq (inside w (at d) (look n es a)) (inside-from w (at d) (look n es a) (λ i l b t. subst (λ (p : Pair). T (admit p b)) (same i l) t)))
     (T→eq (inside w (look n es a) (at d)) (inside-from w (look n es a) (at d) (λ i l b t. subst (λ (p : Pair). T (admit p b)) (sym (same i l)) t)))
 
+pub not-kept-adds : (n w : ℕ) (es : List Entry) (b : Bool) (a d : List Pair) → keeps n w es b a d ≡ false → addsEntry n w es (asserts b a d) ≡ true
+not-kept-adds n w es b a d k = split (addsEntry n w es (asserts b a d)) (λ z. z) (λ z. absurd (true≢false (sym (none-kept n w es b a d z) ∙ k)))
+
 -- lists that say the same of each location ask the same
 differs-as : (w : ℕ) (d r s : ℕ → Pair) → ((i : ℕ) → i < w → r i ≡ s i) → differs w d r ≡ differs w d s
 differs-as zero d r s same = refl
@@ -126,64 +74,19 @@ adds-as n w es fs S (asserts b a d) = ap (λ (x : Bool). b && x) (differs-as w (
 adds-as n w es fs S (checks b a d) = refl
 adds-as n w es fs S nothing = refl
 
--- a state that holds, under an assignment, what says the same of each location as the published list
-record Agrees (φ : ℕ → Bool) (n w : ℕ) (s : State) (es : List Entry) : Type 0 where
-  held : Held
-  holds : Holds φ s held
-  n-is : s .rec .n ≡ n
-  w-is : s .rec .w ≡ w
-  sized : Sizes w (held .entries)
-  same : SameCells w (held .entries) es
-
-agrees-values : {φ : ℕ → Bool} {n w : ℕ} {s : State} {es : List Entry} → Agrees φ n w s es → SameCells w (entryValues φ s) es
-agrees-values {φ} {n} {w} {s} {es} A = rw (holds-are φ s (A .held) (A .holds) (rw (A .w-is) (A .sized))) (A .same)
-
--- goes on so, call by call
-held-entries : (n w : ℕ) (g : Held) (e : Event) → heldAfter n w g e .entries ≡ entriesAfter (g .entries) e
-held-entries n w g (writes c a d) = refl
-held-entries n w g (reads p e a) = refl
-held-entries n w g (asserts b a d) = refl
-held-entries n w g (checks b a d) = refl
-held-entries n w g nothing = refl
-
-sizes-after : (n w : ℕ) (es : List Entry) (e : Event) → Accepted n w e → Sizes w es → Sizes w (entriesAfter es e)
-sizes-after n w es (writes c a d) A S = sizes-more w es (entry c a d) S (A .2 .1)
-sizes-after n w es (reads p e a) A S = S
-sizes-after n w es (asserts b a d) A S = sizes-more w es (entry (control b) a d) S (A .1 .1)
-sizes-after n w es (checks b a d) A S = S
-sizes-after n w es nothing A S = S
-
-agrees-step : (a : ℕ) → a < 2 ^ 64 → (c : Call) (s : State) (es : List Entry) → Agrees (bitAt a) (s .rec .n) (s .rec .w) s es
-    → Agrees (bitAt a) (s .rec .n) (s .rec .w) (step c s .after) (entriesAfter es (event (bitAt a) s c (step c s .answer)))
-agrees-step a small c s es A =
-    let n = s .rec .n in
-    let w = s .rec .w in
-    let e = event (bitAt a) s c (step c s .answer) in
-    let F = step-follows a small s (A .held) (A .holds) c in
-    let g : Held = record { entries = es; ports = A .held .ports; condition = A .held .condition } in
-    let G = same-list n w (A .held) g (record { entries = A .same; ports = λ p i l. refl; condition = refl }) (isLeftOut (step c s .answer)) e (F .accepted) (F .left-out) in
-    record {
-      held = listAfter n w (A .held) (isLeftOut (step c s .answer)) e;
-      holds = F .holds;
-      n-is = F .same-n;
-      w-is = F .same-w;
-      sized = sized (isLeftOut (step c s .answer)) (F .accepted);
-      same = rw (held-entries n w g e) at (G .entries);
-    }
-  where
-    sized : (k : Bool) → Accepted (s .rec .n) (s .rec .w) (event (bitAt a) s c (step c s .answer)) → Sizes (s .rec .w) (listAfter (s .rec .n) (s .rec .w) (A .held) k (event (bitAt a) s c (step c s .answer)) .entries)
-    sized true Q = A .sized
-    sized false Q = rw (held-entries (s .rec .n) (s .rec .w) (A .held) (event (bitAt a) s c (step c s .answer))) (sizes-after (s .rec .n) (s .rec .w) (A .held .entries) (event (bitAt a) s c (step c s .answer)) Q (A .sized))
-
--- n and w stay
-agrees-next : (n w a : ℕ) → a < 2 ^ 64 → (c : Call) (s : State) (es : List Entry) → Agrees (bitAt a) n w s es → Agrees (bitAt a) n w (step c s .after) (entriesAfter es (event (bitAt a) s c (step c s .answer)))
-agrees-next n w a small c s es A =
-    subst₂ (λ (n w : ℕ). Agrees (bitAt a) n w s es → Agrees (bitAt a) n w (step c s .after) (entriesAfter es (event (bitAt a) s c (step c s .answer)))) (A .n-is) (A .w-is) (agrees-step a small c s es) A
-
 -- a refused call adds none, and has as many entries as before
 pub refused-number : (x : Answer) → isRefused x ≡ true → (k : ℕ) × (x ≡ refused k)
 refused-number (refused k) e = (k, refl)
 refused-number (done g) e = absurd (false≢true e)
+
+-- a number is that of the entries with what a call adds to them
+module _ (f : (ℕ → Bool) → Bool) where
+  none-new : (t k : ℕ) → ((a : ℕ) → a < 2 ^ 64 → f (bitAt a) ≡ false) → t ≡ k → t ≡ k + cond (underSome f) 1 0
+  none-new t k none e = rw (some-none f none) (omega (arith, e))
+
+  one-new : (t k a : ℕ) → a < 2 ^ 64 → f (bitAt a) ≡ true → t ≡ k + 1 → t ≡ k + cond (underSome f) 1 0
+  unfolding SomeExactly
+  one-new t k a small is e = rw (some-exactly f .1 (a, small, is)) (omega (arith, e))
 
 -- of one call, the claim
 abbrev Exact : Call → State → Type 0
@@ -221,7 +124,7 @@ module _ (b : ℕ) (a d : List ℕ) (s : State) where
       (λ t f e.
       let q = ap (λ (x : Result). x .answer) e in
       let m = entered-where s b a d q in
-      g (q, ap (λ (x : Result). x .after .rec .entries) e, (m .0, m .1, not-false (addsUnder (m .0)) (λ z. true≢false (sym (none-kept (s .rec .n) (s .rec .w) (entryValues (bitAt (m .0)) s) (value (s .words) (bitAt (m .0)) b) (addressArgument (bitAt (m .0)) s a) (wordArgument (bitAt (m .0)) s d) z) ∙ m .2)))))
+      g (q, ap (λ (x : Result). x .after .rec .entries) e, (m .0, m .1, not-kept-adds (s .rec .n) (s .rec .w) (entryValues (bitAt (m .0)) s) (value (s .words) (bitAt (m .0)) b) (addressArgument (bitAt (m .0)) s a) (wordArgument (bitAt (m .0)) s d) (m .2))))
 
   assert-exact : isRefused (step (access (assert b a d)) s .answer) ≡ false → Exact (access (assert b a d)) s
   assert-exact n = keeps-or-adds n (λ K. none-new _ _ _ (λ k small. rw (K .0) (K .2 k small)) (K .1)) (λ E. entered-exact (E .0) (E .1) (E .2 .0) (E .2 .1) (E .2 .2))
@@ -276,7 +179,7 @@ entry-exactly c s = split (isRefused (step c s .answer)) (refused-exact c s) (go
     go (nodeCall c) n = others-exact (nodeCall c) s refl refl n
 
 -- what a call adds to lists that say the same of each location
-new-as : (m v n w : ℕ) (f g : (ℕ → Bool) → List Entry) (e : Fed) → m ≡ n → v ≡ w → ((a : ℕ) → a < 2 ^ 64 → SameCells w (f (bitAt a)) (g (bitAt a))) → newEntries m v f e ≡ newEntries n w g e
+pub new-as : (m v n w : ℕ) (f g : (ℕ → Bool) → List Entry) (e : Fed) → m ≡ n → v ≡ w → ((a : ℕ) → a < 2 ^ 64 → SameCells w (f (bitAt a)) (g (bitAt a))) → newEntries m v f e ≡ newEntries n w g e
 new-as m v n w f g e em ev S =
     ap (λ (k : ℕ). newEntries k v f e) em ∙ ap (λ (k : ℕ). newEntries n k f e) ev
     ∙ ap (λ (b : Bool). cond b 1 0) (some-as (λ φ. addsEntry n w (f φ) (e φ)) (λ φ. addsEntry n w (g φ) (e φ)) (λ a small. adds-as n w (f (bitAt a)) (g (bitAt a)) (S a small) (e (bitAt a))))
@@ -293,39 +196,14 @@ count-from n w (c ∷ cs) s list en ew A =
     let R = count-from n w cs (step c s .after) (λ φ. entriesAfter (list φ) (event φ s c (step c s .answer))) (N .n-is) (N .w-is) (λ a small. agrees-next n w a small c s (list (bitAt a)) (A a small)) in
     omega (arith, E, same, R)
 
-begins-agrees : (s : State) → Begins s → (φ : ℕ → Bool) → Agrees φ (s .rec .n) (s .rec .w) s []
-begins-agrees s B φ = record { held = holdsNothing; holds = begins-holds s B φ; n-is = refl; w-is = refl; sized = tt; same = record { cells = λ x i h. refl } }
-
 pub count-exactly : CountExactly
 unfolding CountExactly
 count-exactly s B cs = let C = count-from (s .rec .n) (s .rec .w) cs s (λ φ. []) refl refl (λ a small. begins-agrees s B (bitAt a)) in omega (arith, C, B .entries)
-
-agrees-run : (a : ℕ) → a < 2 ^ 64 → (n w : ℕ) (cs : List Call) (s : State) (es : List Entry) → Agrees (bitAt a) n w s es → Agrees (bitAt a) n w (run cs s) (entriesAfterAll es (events (bitAt a) s cs))
-unfolding run
-agrees-run a small n w [] s es A = A
-agrees-run a small n w (c ∷ cs) s es A = agrees-run a small n w cs (step c s .after) _ (agrees-next n w a small c s es A)
-
-pub look-is-list : LookIsList
-unfolding LookIsList
-look-is-list s B cs a small x i l = same-look (s .rec .n) (s .rec .w) _ _ (agrees-values (agrees-run a small (s .rec .n) (s .rec .w) cs s [] (begins-agrees s B (bitAt a)))) x i l
 
 -- a count of accesses that turn on variable 8 alone: those that add an entry under one of its values
 byHand : ℕ → ℕ → (Bool → List Entry) → List (Bool → Event) → ℕ
 byHand n w list [] = 0
 byHand n w list (e ∷ es) = cond (addsEntry n w (list false) (e false) || addsEntry n w (list true) (e true)) 1 0 + byHand n w (λ b. entriesAfter (list b) (e b)) es
-
-some-of-8 : (f : Bool → Bool) → underSome (λ φ. f (φ 8)) ≡ f false || f true
-unfolding SomeExactly
-some-of-8 f =
-    let S = some-exactly (λ φ. f (φ 8)) in
-    iff-same (underSome (λ φ. f (φ 8))) (f false || f true) (λ e. let m = S .0 e in among (bitAt (m .0) 8) (m .2)) (λ e. split (f false) (λ t. S .1 (set false t)) (λ t. S .1 (set true (rw t at e))))
-  where
-    among : (b : Bool) → f b ≡ true → (f false || f true) ≡ true
-    among true t = or-right (f false) (f true) t
-    among false t = or-left (f false) (f true) t
-
-    set : (b : Bool) → f b ≡ true → (a : ℕ) × (a < 2 ^ 64) × (f (bitAt a 8) ≡ true)
-    set b t = (numberOf (λ v. b) 64, number-fits 64 (λ v. b), ap f (bit-number 64 (λ v. b) 8 (omega arith)) ∙ t)
 
 by-hand : (n w : ℕ) (list : Bool → List Entry) (es : List (Bool → Event)) → entryCountFrom n w (λ φ. list (φ 8)) (ofVariable8 es) ≡ byHand n w list es
 unfolding byHand

@@ -18,8 +18,8 @@ use Rattle.conditions.specs.Meaning.{Builds}
 use Rattle.conditions.proofs.Promises.{ite-builds, variable-builds}
 use Rattle.model.specs.Pairs.{Pair, admit}
 use Rattle.model.specs.Record.{Record}
-use Rattle.model.specs.Access.{Marks, Write, AssertBuilt}
-use Rattle.model.specs.Step.{State, write, read, assert, check, evaluate, variable, ite, Call, access, nodeCall, place, idle, filled, entered, kept, accepted, valued, node, done, isRefused, Result, refusal, Finish, full, gives, closed, unlessFull, begin, grown, withEntry, withAssertCondition, assertFirst, enter, isIdle, finishAccess, finishNode, finish, turnedDownBy, step, writeBuilt}
+use Rattle.model.specs.Access.{Marks, AssertBuilt}
+use Rattle.model.specs.Step.{State, write, read, assert, check, evaluate, variable, ite, Call, access, nodeCall, place, idle, filled, entered, kept, accepted, valued, node, done, isRefused, Result, refusal, Finish, full, gives, closed, unlessFull, begin, grown, withEntry, withAssertCondition, assertFirst, entryBuilt, enter, isIdle, finishAccess, finishNode, finish, turnedDownBy, step, writeBuilt}
 use Rattle.model.specs.Published.{answer, assertHolds, checkHolds, keeps, control}
 use Rattle.model.specs.Claims.{pairAt}
 use Rattle.model.specs.Meanings.{entryValues, addressArgument, wordArgument, Enters, Demand2, portValue}
@@ -70,7 +70,7 @@ module _ (s : State) (b : ℕ) (a d : List ℕ) (n : isRefused (step (access (as
 
   -- its Write, where it is entered
   abbrev y : Outcome Marks
-  y = Write (s .rec .n) b (x .answer .notB) a (x .words) (record { count = x .store .count; full = false })
+  y = entryBuilt s b a (x .answer) (x .words) (x .store .count)
 
   asserts : (x .store .full ≡ false) × (step (access (assert b a d)) s ≡ closed s (enter s b a d (x .answer) (x .words) (x .store .count)))
   unfolding finishAccess
@@ -241,13 +241,20 @@ demand2 s a small =
       ite-node = ite-node a small s;
     }
 
--- an assert is entered only where some assignment does not keep it
+-- an assert that no row refuses, and whose first program does not overflow, is not kept only where some assignment does not keep it
+pub needs-where : (s : State) (b : ℕ) (a d : List ℕ) → refusal (access (assert b a d)) s ≡ 0 → assertFirst b a d s .store .full ≡ false → eqb (assertFirst b a d s .answer .keep) 1 ≡ false
+    → (k : ℕ) × (k < 2 ^ 64) × (keeps (s .rec .n) (s .rec .w) (entryValues (bitAt k) s) (value (s .words) (bitAt k) b) (addressArgument (bitAt k) s a) (wordArgument (bitAt k) s d) ≡ false)
+needs-where s b a d e f t =
+    let M = assert-facts s b a d e .compared .memory in
+    let X = assert-builds 0 (omega arith) s (held (bitAt 0) s) (holds-values (bitAt 0) s M) b a d e in
+    let m = somewhere-false (X .standard) (assertFirst b a d s .answer .keep) (X .post .keep .below) (eqb-false _ _ t) in
+    let φ = bitAt (m .0) in
+    let K = assert-builds (m .0) (m .1) s (held φ s) (holds-values φ s M) b a d e in
+    (m .0, m .1, sym (K .post .keep .is f φ (near-self φ)) ∙ m .2)
+
+-- so one that is entered
 pub entered-where : (s : State) (b : ℕ) (a d : List ℕ) → step (access (assert b a d)) s .answer ≡ done entered
     → (k : ℕ) × (k < 2 ^ 64) × (keeps (s .rec .n) (s .rec .w) (entryValues (bitAt k) s) (value (s .words) (bitAt k) b) (addressArgument (bitAt k) s a) (wordArgument (bitAt k) s d) ≡ false)
-entered-where s b x d q =
-    let n : isRefused (step (access (assert b x d)) s .answer) ≡ false = ap isRefused q in
-    let X = assert-means 0 (omega arith) s b x d n in
-    let other = kept-or-entered s b x d n (λ e. absurd (true≢false (ap isLeftOut (rw e at q)))) (λ t f e. eqb-false _ _ t) in
-    let m = somewhere-false (X .standard) (assertFirst b x d s .answer .keep) (X .post .keep .below) other in
-    let K = assert-means (m .0) (m .1) s b x d n .post .keep in
-    (m .0, m .1, sym (K .is (asserts s b x d n .0) (bitAt (m .0)) (near-self (bitAt (m .0)))) ∙ m .2)
+entered-where s b a d q =
+    let n : isRefused (step (access (assert b a d)) s .answer) ≡ false = ap isRefused q in
+    needs-where s b a d (acts (access (assert b a d)) s n .0) (asserts s b a d n .0) (kept-or-entered s b a d n (λ e. absurd (true≢false (ap isLeftOut (rw e at q)))) (λ t f e. t))

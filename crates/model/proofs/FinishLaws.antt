@@ -6,9 +6,9 @@ use Prim.Native.Nat.{ℕ}
 use lib.Dec.{eqb}
 use Rattle.nodes.proofs.BoolLaws.{split}
 use Rattle.conditions.specs.Build.{Outcome}
-use Rattle.model.specs.Access.{Marks, AssertBuilt, Write}
+use Rattle.model.specs.Access.{Marks, AssertBuilt}
 use Rattle.model.specs.Rows.{spaceFor}
-use Rattle.model.specs.Step.{State, assert, place, idle, entered, kept, Finish, full, short, gives, unlessFull, grown, withEntry, withAssertCondition, ifSpace, assertFirst, enter, isIdle, writeBuilt, finishWrite, finishAccess}
+use Rattle.model.specs.Step.{State, assert, place, idle, entered, kept, Finish, full, short, gives, unlessFull, grown, withEntry, withAssertCondition, ifSpace, assertFirst, entryBuilt, enter, isIdle, writeBuilt, finishWrite, finishAccess}
 
 module _ (P : Finish → Type 0) where
   -- a program: its store is full, or what follows
@@ -42,7 +42,7 @@ module _ (P : Finish → Type 0) where
     q = assertFirst b a d s
 
     abbrev y : Outcome Marks
-    y = Write (s .rec .n) b (q .answer .notB) a (q .words) (record { count = q .store .count; full = false })
+    y = entryBuilt s b a (q .answer) (q .words) (q .store .count)
 
     pub of-assert : (q .store .full ≡ true → P (full (q .store))) → (q .store .full ≡ false → eqb (q .answer .keep) 1 ≡ true → P (gives kept (withAssertCondition (grown s (q .words) (q .store .count)) (q .answer .condition))))
         → (q .store .full ≡ false → eqb (q .answer .keep) 1 ≡ false → spaceFor (s .rec) (s .words) 1 (s .list) ≡ false → P short)

@@ -19,6 +19,8 @@ pub mod ValidLaws
 pub mod FrameLaws
 pub mod Demand3
 pub mod IdleLaws
+pub mod SomeLaws
+pub mod AgreeLaws
 pub mod CountLaws
 pub mod BudgetLaws
 pub mod ChainLaws

@@ -1,7 +1,7 @@
 -- Facts on Bools, pairs, words and places, for any number of bits.
 use mathlib.Core.Path.{_≡_, refl, sym, ap, _∙_, subst}
 use mathlib.Core.Logic.{_⊎_, inl, inr}
-use mathlib.Core.Bool.{Bool, true, false, _&&_, _||_, not, cond, or-false, Bool·beq}
+use mathlib.Core.Bool.{Bool, true, false, _&&_, _||_, not, cond, or-false, true≢false, false≢true, Bool·beq}
 use mathlib.Core.List.{List, [], _∷_, _++_}
 use Prim.Native.Nat.{ℕ, zero, suc, _<_, zero-le, suc-le-suc}
 use native.Mathlib.Nat.{le-of-suc-le-suc, not-suc-le-zero}
@@ -37,6 +37,11 @@ pub either : {C : Type 0} (a b : Bool) → T (a || b) → (T a → C) → (T b �
 either true b t f g = f tt
 either false b t f g = g t
 
+-- an 'or' that fails
+pub not-or : (a b : Bool) → (not a || b) ≡ false → (a ≡ true) × (b ≡ false)
+not-or true b e = (refl, e)
+not-or false b e = absurd (true≢false e)
+
 -- a test that passes, as an equation, and back
 pub T→eq : (b : Bool) → T b → b ≡ true
 T→eq true t = refl
@@ -48,6 +53,12 @@ eq→T e = subst T (sym e) tt
 pub beq-refl : (b : Bool) → Bool·beq b b ≡ true
 beq-refl true = refl
 beq-refl false = refl
+
+pub beq-eq : (a b : Bool) → Bool·beq a b ≡ true → a ≡ b
+beq-eq true true e = refl
+beq-eq true false e = absurd (false≢true e)
+beq-eq false true e = absurd (false≢true e)
+beq-eq false false e = refl
 
 pub same-refl : (x : List Bool) → same x x ≡ true
 same-refl [] = refl

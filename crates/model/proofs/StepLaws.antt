@@ -22,7 +22,7 @@ use Rattle.conditions.proofs.Promises.{clear-keep, stands-value, value-1}
 use Rattle.model.specs.Pairs.{Pair, admit, at}
 use Rattle.model.specs.Record.{Record, withCount, withEntries, withAsserted, withChecked, entryAt, appended, listCapacity, heldWord, replaced}
 use Rattle.model.specs.Access.{Marks, Write, Read, AssertBuilt, Check}
-use Rattle.model.specs.Step.{State, write, read, assert, check, NodeCall, evaluate, variable, ite, Call, access, nodeCall, Given, place, idle, filled, entered, kept, accepted, valued, node, Answer, refused, done, Result, refusal, turnedDown, cleared, Finish, full, closed, unlessFull, begin, grown, withEntry, withHeld, withAssertCondition, assertFirst, finishAccess, finishNode, finish, turnedDownBy, step}
+use Rattle.model.specs.Step.{State, write, read, assert, check, NodeCall, evaluate, variable, ite, Call, access, nodeCall, Given, place, idle, filled, entered, kept, accepted, valued, node, Answer, refused, done, Result, refusal, turnedDown, cleared, Finish, full, closed, unlessFull, begin, grown, withEntry, withHeld, withAssertCondition, assertFirst, entryBuilt, finishAccess, finishNode, finish, turnedDownBy, step}
 use Rattle.model.specs.Published.{Entry, entry, answer, checkHolds, assertHolds, control, keeps}
 use Rattle.model.specs.Array.{Event, writes, reads, asserts, checks, nothing}
 use Rattle.model.specs.Held.{Held, heldAfter, NowMay, Accepted}
@@ -408,7 +408,7 @@ module _ (k : ℕ) (small : k < 2 ^ 64) (s : State) (h : Held) (H : Holds (bitAt
 
       -- its Write
       abbrev y : Outcome Marks
-      y = Write (r .n) b (x .answer .notB) a (x .words) one
+      y = entryBuilt s b a (x .answer) (x .words) (x .store .count)
 
       pub enter-builds : Builds (x .words) one (MarksMean σ (entry (control β) qs ds)) y
       enter-builds =

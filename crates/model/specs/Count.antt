@@ -2,7 +2,7 @@
 use mathlib.Core.Path.{_≡_}
 use mathlib.Core.Logic.{_↔_}
 use mathlib.Core.Bool.{Bool, true, false, _&&_, _||_, not, cond, Bool·beq}
-use mathlib.Core.List.{List, [], _∷_}
+use mathlib.Core.List.{List, [], _∷_, _++_}
 use Prim.Native.Nat.{ℕ, zero, suc, _+_, _^_, _<_, _≤_}
 use Rattle.conditions.specs.Value.{value}
 use Rattle.conditions.specs.Assignment.{bitAt}
@@ -11,8 +11,8 @@ use Rattle.model.specs.Record.{Record, listCapacity}
 use Rattle.model.specs.Published.{Entry, look}
 use Rattle.model.specs.Array.{Event, writes, reads, asserts, checks, nothing}
 use Rattle.model.specs.Held.{entriesAfter}
-use Rattle.model.specs.Step.{State, assert, Call, access, entered, kept, accepted, refused, done, isRefused, step, run, fresh}
-use Rattle.model.specs.Claims.{event, Fed, fed, events, Begins}
+use Rattle.model.specs.Step.{State, Access, assert, Call, access, entered, kept, accepted, refused, done, isRefused, step, run, fresh}
+use Rattle.model.specs.Claims.{argument, event, Fed, fed, events, Begins}
 use Rattle.model.specs.Meanings.{entryValues, addressArgument, wordArgument}
 use Rattle.model.specs.Chain.{Link, Chained, lastState, fedOf, freshed}
 
@@ -93,10 +93,10 @@ ChainCount =
     (given : Record) (n w : ℕ) (ws ps : List ℕ) (s : State) → freshed (fresh given n w ws ps) ≡ (done accepted, s .rec, s .words, s .ports)
     → (ks : List Link) → Chained s ks → lastState s ks .rec .entries ≡ entryCount (s .rec .n) (s .rec .w) (fedOf s ks)
 
--- "Budgets are planned from the last line": the list takes as many entries as the accesses make, and 8 is met only where it takes no more
+-- "Budgets are planned from the last line": the accesses make no more entries than the list takes, and 8 refuses an access only where with it they would
 pub record Budget (s : State) (cs : List Call) : Type 0 where
-  pub enough : entryCount (s .rec .n) (s .rec .w) (fed s cs) ≤ listCapacity (s .rec) (s .list)
-  pub eight : (c : Call) → step c (run cs s) .answer ≡ refused 8 → entryCount (s .rec .n) (s .rec .w) (fed s cs) ≡ listCapacity (s .rec) (s .list)
+  pub within : entryCount (s .rec .n) (s .rec .w) (fed s cs) ≤ listCapacity (s .rec) (s .list)
+  pub eight : (c : Access) → step (access c) (run cs s) .answer ≡ refused 8 → listCapacity (s .rec) (s .list) < entryCount (s .rec .n) (s .rec .w) (fed s cs ++ ((λ φ. argument φ (run cs s) c) ∷ []))
 
 unfoldable pub BudgetExactly : Type 0
 BudgetExactly = (s : State) → Begins s → (cs : List Call) → Budget s cs

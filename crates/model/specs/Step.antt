@@ -184,11 +184,15 @@ withCheckCondition s v = withRecord s (withChecked (s .rec) v)
 abbrev pub assertFirst : ℕ → List ℕ → List ℕ → State → Outcome AssertBuilt
 assertFirst b a d s = Assert (s .rec) (s .list) b a d (s .words) (begin (s .rec))
 
+-- and for its entry: "Write((b, Not b),a,d)"
+abbrev pub entryBuilt : State → ℕ → List ℕ → AssertBuilt → List ℕ → ℕ → Outcome Marks
+entryBuilt s b a q w c = Write (s .rec .n) b (q .notB) a w (record { count = c; full = false })
+
 -- "if Or(Not b, And(A,C)) is 1 the assert is kept, else entered by Write((b, Not b),a,d)"; "8 is met when the entry is needed, before its Write builds anything"
 unfoldable pub enter : State → ℕ → List ℕ → List ℕ → AssertBuilt → List ℕ → ℕ → Finish
 enter s b a d q w c =
     cond (eqb (q .keep) 1) (gives kept (withAssertCondition (grown s w c) (q .condition)))
-    (ifSpace 1 s (unlessFull (Write (s .rec .n) b (q .notB) a w (record { count = c; full = false })) (λ m w c. gives entered (withNew (withAssertCondition (grown s w c) (q .condition)) (record { marks = m; address = a; word = d } ∷ [])))))
+    (ifSpace 1 s (unlessFull (entryBuilt s b a q w c) (λ m w c. gives entered (withNew (withAssertCondition (grown s w c) (q .condition)) (record { marks = m; address = a; word = d } ∷ [])))))
 
 -- 02: "writes whose enable is 0 under every assignment": by its h, which is node 0. That node 0, and no other, is 0 under every assignment is `node-0-alone`; `WriteAnswers` says it of writes
 abbrev pub isIdle : List ℕ → Bool
