@@ -8,7 +8,7 @@ use lib.Dec.{T}
 use Rattle.conditions.specs.Value.{value}
 use Rattle.conditions.specs.Assignment.{bitAt}
 use Rattle.model.specs.Record.{Record}
-use Rattle.model.specs.Step.{State, Call, accepted, Answer, refused, done, Result, isRefused, step, run, Fresh, fresh}
+use Rattle.model.specs.Step.{State, Call, accepted, Answer, done, Result, isRefused, run, Fresh, fresh}
 use Rattle.model.specs.Array.{Event, Run, observed, Returns, Allowed, lastMemory}
 use Rattle.model.specs.Claims.{event, Fed, fed, under, BitMay, May, Begins, Exactly, Demand3, FromFresh, HeldMay}
 use Rattle.model.specs.Chain.{numbered, freshed, Link, Chained, lastState, fedOf, eventsOf, MayBe, ExactlyRuns, ChainExactly}

@@ -7,7 +7,6 @@ use Prim.Native.Nat.{ℕ, zero, suc, _+_, _*_, _^_, _<_}
 use native.Mathlib.Omega.{arith}
 use lib.Dec.{T}
 use lib.ListN.{length, getD, replicate, length-replicate, getD-replicate}
-use Rattle.conditions.specs.Stores.{Standard}
 use Rattle.conditions.specs.Value.{value}
 use Rattle.conditions.specs.Assignment.{bitAt}
 use Rattle.conditions.proofs.Promises.{from-1, terminals-standard, value-1}
@@ -20,10 +19,10 @@ use Rattle.model.specs.Claims.{pairAt, event, events, May, Exactly, Begi
 use Rattle.model.proofs.KeptLaws.{SameHeld, same-itself, same-answer}
 use Rattle.model.proofs.RunLaws.{reads-exact, ports-exact, checks-exact}
 use Rattle.model.proofs.MeansLaws.{Means, means-as, near-self, one-means}
-use Rattle.model.proofs.HalfLaws.{halfOf, half-X, half-even, half-odd}
+use Rattle.model.proofs.HalfLaws.{halfOf, half-X}
 use Rattle.model.proofs.PortLaws.{held-at}
 use Rattle.model.proofs.FactLaws.{fresh-told}
-use Rattle.model.proofs.StepLaws.{isLeftOut, same-list, Holds, PortsMean, Follows, pair-is, step-follows, port-is}
+use Rattle.model.proofs.StepLaws.{isLeftOut, same-list, Holds, PortsMean, Follows, step-follows, port-is}
 
 -- the list of calls goes on telling what the published run of its events does
 record Traced (σ : ℕ → Bool) (n w : ℕ) (cs : List Call) (s : State) (g : Held) : Type 0 where

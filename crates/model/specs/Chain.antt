@@ -1,17 +1,13 @@
 -- Of the calls as they ran: what a call promises, and demand 3 of every chain of states and answers in which each call met its promise.
 use mathlib.Core.Path.{_≡_}
-use mathlib.Core.Logic.{_↔_}
 use mathlib.Core.Bool.{Bool}
 use mathlib.Core.List.{List, [], _∷_}
 use Prim.Native.Nat.{ℕ, zero, suc, _^_, _<_}
-use lib.Dec.{T}
-use Rattle.conditions.specs.Value.{value}
 use Rattle.conditions.specs.Assignment.{bitAt}
 use Rattle.model.specs.Record.{Record}
 use Rattle.model.specs.Step.{State, Access, NodeCall, Call, access, nodeCall, accepted, Answer, refused, done, Result, step, Fresh, fresh}
-use Rattle.model.specs.Pairs.{bit}
-use Rattle.model.specs.Array.{Event, Run, observed, lastMemory, Returns, Allowed}
-use Rattle.model.specs.Claims.{event, Fed, under, BitMay, HeldMay}
+use Rattle.model.specs.Array.{Event}
+use Rattle.model.specs.Claims.{event, Fed, under, BitMay, ExactlyAsRuns}
 
 -- a call takes a state to the next, with this answer
 abbrev pub Answered : Call → State → State → Answer → Type 0
@@ -61,14 +57,9 @@ MayBe φ [] j i b = ⊥
 MayBe φ (k ∷ ks) zero i b = BitMay φ (k .after .words) (k .answer) i b
 MayBe φ (k ∷ ks) (suc j) i b = MayBe φ ks j i b
 
--- the claim of one chain, under one assignment: its read bits, the words that the ports hold after it, and "the check condition in record and node words after the last call"
-pub record ExactlyRuns (s : State) (ks : List Link) (φ : ℕ → Bool) : Type 0 where
-  pub bits : (j i : ℕ) → i < s .rec .w → (b : Bool)
-      → MayBe φ ks j i b ↔ ((r : Run (s .rec .w) (eventsOf φ s ks)) × Returns (observed (s .rec .w) (eventsOf φ s ks) r j) i b)
-  pub holds : (p i : ℕ) → p < 4 → i < s .rec .w → (b : Bool)
-      → HeldMay φ (lastState s ks) p i b ↔ ((r : Run (s .rec .w) (eventsOf φ s ks)) × (bit (lastMemory (s .rec .w) (eventsOf φ s ks) r .ports p) i ≡ b))
-  pub checking : T (value (lastState s ks .words) φ (lastState s ks .rec .checked))
-      ↔ ((r : Run (s .rec .w) (eventsOf φ s ks)) (j : ℕ) → Allowed (observed (s .rec .w) (eventsOf φ s ks) r j))
+-- the claim of one chain, under one assignment
+abbrev pub ExactlyRuns : State → List Link → (ℕ → Bool) → Type 0
+ExactlyRuns s ks φ = ExactlyAsRuns φ (s .rec .w) (eventsOf φ s ks) (MayBe φ ks) (lastState s ks)
 
 -- "The first gets the record and node words that an accepted Fresh left, and a list of any words, for any n, w and sizes", and the ports that it left
 unfoldable pub ChainExactly : Type 0

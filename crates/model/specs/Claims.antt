@@ -1,11 +1,10 @@
 -- Demand 3: "a single claim about the whole list of calls, and not one for each call".
 use mathlib.Core.Path.{_≡_}
 use mathlib.Core.Logic.{_↔_}
-use mathlib.Core.Bool.{Bool, true, false}
+use mathlib.Core.Bool.{Bool}
 use mathlib.Core.List.{List, [], _∷_}
 use Prim.Native.Nat.{ℕ, zero, suc, _^_, _<_, _≤_}
 use lib.Dec.{T}
-use lib.ListN.{getD}
 use Rattle.conditions.specs.Stores.{Standard}
 use Rattle.conditions.specs.Value.{value}
 use Rattle.conditions.specs.Assignment.{bitAt}
@@ -74,17 +73,20 @@ abbrev pub HeldMay : (ℕ → Bool) → State → ℕ → ℕ → Bool → Type 
 HeldMay φ t p i b = T (admit (pairAt φ (t .words) (heldWord (t .rec) (t .ports) p) i) b)
 
 -- the check condition, "in record and node words after the last call"
-abbrev pub CheckHolds : (ℕ → Bool) → State → List Call → Type 0
-CheckHolds φ s cs = T (value (run cs s .words) φ (run cs s .rec .checked))
+abbrev pub CheckHolds : (ℕ → Bool) → State → Type 0
+CheckHolds φ t = T (value (t .words) φ (t .rec .checked))
 
--- Under one assignment: a read bit may be b exactly when some plain run returns b there; after the list a bit of a port's word may be b exactly when some plain run
--- has b there in that port; and the check condition holds exactly when every plain run finds, at every check in force, a word that the check allows
-pub record Exactly (s : State) (cs : List Call) (φ : ℕ → Bool) : Type 0 where
-  pub bits : (j i : ℕ) → i < s .rec .w → (b : Bool)
-      → May φ s cs j i b ↔ ((r : Run (s .rec .w) (events φ s cs)) × Returns (observed (s .rec .w) (events φ s cs) r j) i b)
-  pub holds : (p i : ℕ) → p < 4 → i < s .rec .w → (b : Bool)
-      → HeldMay φ (run cs s) p i b ↔ ((r : Run (s .rec .w) (events φ s cs)) × (bit (lastMemory (s .rec .w) (events φ s cs) r .ports p) i ≡ b))
-  pub checking : CheckHolds φ s cs ↔ ((r : Run (s .rec .w) (events φ s cs)) (j : ℕ) → Allowed (observed (s .rec .w) (events φ s cs) r j))
+-- Under one assignment, of calls that fed these events to the array of w bits, whose reads' bits may be 0 and 1 as this says, and that left the state t: a read bit may be b exactly
+-- when some plain run returns b there; after the list a bit of a port's word may be b exactly when some plain run has b there in that port; and the check condition holds exactly
+-- when every plain run finds, at every check in force, a word that the check allows
+pub record ExactlyAsRuns (φ : ℕ → Bool) (w : ℕ) (es : List Event) (may : ℕ → ℕ → Bool → Type 0) (t : State) : Type 0 where
+  pub bits : (j i : ℕ) → i < w → (b : Bool) → may j i b ↔ ((r : Run w es) × Returns (observed w es r j) i b)
+  pub holds : (p i : ℕ) → p < 4 → i < w → (b : Bool) → HeldMay φ t p i b ↔ ((r : Run w es) × (bit (lastMemory w es r .ports p) i ≡ b))
+  pub checking : CheckHolds φ t ↔ ((r : Run w es) (j : ℕ) → Allowed (observed w es r j))
+
+-- of a list of calls
+abbrev pub Exactly : State → List Call → (ℕ → Bool) → Type 0
+Exactly s cs φ = ExactlyAsRuns φ (s .rec .w) (events φ s cs) (May φ s cs) (run cs s)
 
 -- a state in which lists of calls may begin: any standard store, no entries, both conditions 1, a list of any words, all ports X, and w that a port has words for
 pub record Begins (s : State) : Type 0 where

@@ -48,7 +48,7 @@ addsEntry n w es nothing = false
 abbrev pub newEntries : ℕ → ℕ → ((ℕ → Bool) → List Entry) → Fed → ℕ
 newEntries n w list e = cond (underSome (λ φ. addsEntry n w (list φ) (e φ))) 1 0
 
--- the count of a list of calls, in which the look is "the published one" over all accepted writes and asserts before it
+-- the count of a list of calls: each looks at the published list of all accepted writes and asserts before it, idle and kept ones too
 abbrev pub entryCountFrom : ℕ → ℕ → ((ℕ → Bool) → List Entry) → List Fed → ℕ
 entryCountFrom n w list [] = 0
 entryCountFrom n w list (e ∷ es) = newEntries n w list e + entryCountFrom n w (λ φ. entriesAfter (list φ) (e φ)) es
