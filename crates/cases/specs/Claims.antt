@@ -50,10 +50,17 @@ abbrev pub AllAccepted : List Call → State → Type 0
 AllAccepted [] s = Unit {0}
 AllAccepted (c ∷ cs) s = (isRefused (step c s .answer) ≡ false) × AllAccepted cs (step c s .after)
 
--- the lines of their answers one after the other, and the last line
+-- the lines of their answers one after the other, and what is printed after them
+abbrev pub linesThen : (State → List ℕ) → List Call → State → List ℕ
+linesThen end [] s = end s
+linesThen end (c ∷ cs) s = lineOf (step c s .answer) (step c s .after) ++ linesThen end cs (step c s .after)
+
+-- nothing; the last line
+abbrev pub accessLines : List Call → State → List ℕ
+accessLines cs s = linesThen (λ t. []) cs s
+
 abbrev pub linesOf : List Call → State → List ℕ
-linesOf [] s = endLine (s .rec .entries)
-linesOf (c ∷ cs) s = lineOf (step c s .answer) (step c s .after) ++ linesOf cs (step c s .after)
+linesOf cs s = linesThen (λ t. endLine (t .rec .entries)) cs s
 
 -- 02: the line of an accepted write says `write idle` exactly where its enable is 0 under every assignment, and else its place, the count of entries before it
 pub record WriteSays (c a d : List ℕ) (s : State) : Type 0 where
@@ -116,11 +123,6 @@ byteAfter file k = endFrom file (getD file 0 0) (getD file 1 0) (firstAt file) k
 -- what the access after them answers
 abbrev pub answerAfter : List ℕ → List ℕ → List ℕ → ℕ → Answer
 answerAfter file words list k = step (callAt file (getD file 0 0) (getD file 1 0) (byteAfter file k)) (run (firstCalls file k) (stateIn file words list)) .answer
-
--- the lines of calls one after the other
-abbrev pub accessLines : List Call → State → List ℕ
-accessLines [] s = []
-accessLines (c ∷ cs) s = lineOf (step c s .answer) (step c s .after) ++ accessLines cs (step c s .after)
 
 -- why a case whose sections are read is refused by a number after k accesses: the next is not there, or its call is refused, or its line does not fit; or all are printed, and bytes are
 -- left, or the last line does not fit

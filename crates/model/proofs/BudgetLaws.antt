@@ -7,11 +7,12 @@ use native.Mathlib.Omega.{arith}
 use borrow.Author.Tests.{leb-false}
 use Rattle.nodes.proofs.BoolLaws.{split}
 use Rattle.conditions.specs.declared.Store.{Store}
+use Rattle.conditions.specs.Build.{Outcome}
 use Rattle.conditions.specs.Value.{value}
 use Rattle.conditions.specs.Assignment.{bitAt}
 use Rattle.model.specs.Record.{listCapacity}
 use Rattle.model.specs.Rows.{spaceFor}
-use Rattle.model.specs.Step.{State, Access, write, read, assert, check, evaluate, variable, ite, Call, access, nodeCall, Given, refused, isRefused, Result, refusal, Finish, full, short, gives, closed, finishAccess, finishNode, finish, turnedDownBy, step, run}
+use Rattle.model.specs.Step.{State, Access, write, read, assert, check, evaluate, variable, ite, Call, access, nodeCall, Given, refused, isRefused, Result, refusal, Finish, full, short, gives, closed, unlessFull, finishAccess, finishNode, finish, turnedDownBy, step, run}
 use Rattle.model.specs.Claims.{argument, Fed, fed, under, events}
 use Rattle.model.specs.Meanings.{entryValues, addressArgument, wordArgument}
 use Rattle.model.specs.Published.{Entry, keeps}
@@ -31,44 +32,63 @@ use Rattle.model.proofs.CountLaws.{refused-number, not-kept-adds, new-a
 abbrev takes : State → ℕ
 takes s = listCapacity (s .rec) (s .list)
 
--- what a call comes to: its entries are within what the list takes, and where 8 refuses it they are all that it takes
-record Within (s : State) (x : Result) : Type 0 where
+-- a call that would add an entry, under some assignment
+abbrev Adds : Call → State → Type 0
+Adds (access c) s = (k : ℕ) × (k < 2 ^ 64) × (addsEntry (s .rec .n) (s .rec .w) (entryValues (bitAt k) s) (argument (bitAt k) s c) ≡ true)
+Adds (nodeCall c) s = ⊥
+
+-- what a call comes to: its entries are within what the list takes; and where 8 refuses it they are all that it takes, and it would add one
+record Within (c : Call) (s : State) (x : Result) : Type 0 where
   below : s .rec .entries ≤ takes s → x .after .rec .entries ≤ takes s
-  eight : x .answer ≡ refused 8 → takes s ≤ s .rec .entries
+  eight : x .answer ≡ refused 8 → (takes s ≤ s .rec .entries) × Adds c s
 
-abbrev Stays : State → Finish → Type 0
-Stays s z = Within s (closed s z)
+abbrev Stays : Call → State → Finish → Type 0
+Stays c s z = Within c s (closed s z)
 
-full-within : (s : State) (t : Store) → Stays s (full t)
-unfolding closed
-full-within s t = record { below = λ h. h; eight = λ e. let z : _≡_ {A = ℕ} 9 8 = cc in absurd (omega arith) }
+module _ (c : Call) (s : State) where
+  full-within : (t : Store) → Stays c s (full t)
+  unfolding closed
+  full-within t = record { below = λ h. h; eight = λ e. let z : _≡_ {A = ℕ} 9 8 = cc in absurd (omega arith) }
 
-done-within : (s : State) (g : Given) (t : State) → (s .rec .entries ≤ takes s → t .rec .entries ≤ takes s) → Stays s (gives g t)
-unfolding closed
-done-within s g t h = record { below = h; eight = λ e. absurd (false≢true (ap isRefused e)) }
+  done-within : (g : Given) (t : State) → (s .rec .entries ≤ takes s → t .rec .entries ≤ takes s) → Stays c s (gives g t)
+  unfolding closed
+  done-within g t h = record { below = h; eight = λ e. absurd (false≢true (ap isRefused e)) }
 
-short-within : (s : State) → spaceFor (s .rec) (s .words) 1 (s .list) ≡ false → Stays s short
-unfolding closed
-short-within s r = record { below = λ h. h; eight = λ e. omega (arith, leb-false (s .rec .entries + 1) (takes s) r) }
+  short-within : spaceFor (s .rec) (s .words) 1 (s .list) ≡ false → Adds c s → Stays c s short
+  unfolding closed
+  short-within r m = record { below = λ h. h; eight = λ e. (omega (arith, leb-false (s .rec .entries + 1) (takes s) r), m) }
 
-finish-within : (c : Call) (s : State) → Stays s (finish c s)
+  one-within : spaceFor (s .rec) (s .words) 1 (s .list) ≡ true → s .rec .entries ≤ takes s → s .rec .entries + 1 ≤ takes s
+  one-within r h = omega (arith, space-room (s .rec) (s .words) (s .list) r)
+
+  -- a program that leaves nothing but its nodes and what it gives
+  program-within : {A : Type 0} (x : Outcome A) (k : A → List ℕ → ℕ → Finish) → Stays c s (k (x .answer) (x .words) (x .store .count)) → Stays c s (unlessFull x k)
+  program-within x k h = of-program (Stays c s) x k (λ f. full-within _) (λ f. h)
+
+-- an assert that its look does not keep
+not-kept : (b : ℕ) (a d : List ℕ) (s : State) → (k : ℕ) × (k < 2 ^ 64) × (keeps (s .rec .n) (s .rec .w) (entryValues (bitAt k) s) (value (s .words) (bitAt k) b) (addressArgument (bitAt k) s a) (wordArgument (bitAt k) s d) ≡ false) → Adds (access (assert b a d)) s
+not-kept b a d s m = (m .0, m .1, not-kept-adds (s .rec .n) (s .rec .w) (entryValues (bitAt (m .0)) s) (value (s .words) (bitAt (m .0)) b) (addressArgument (bitAt (m .0)) s a) (wordArgument (bitAt (m .0)) s d) (m .2))
+
+finish-within : (c : Call) (s : State) → refusal c s ≡ 0 → Stays c s (finish c s)
 unfolding finishAccess finishNode
-finish-within (access (write c a d)) s =
-    of-write (Stays s) c a d s (λ i. done-within s _ _ (λ h. h)) (λ i f. full-within s _) (λ i f r. done-within s _ _ (λ h. omega (arith, space-room (s .rec) (s .words) (s .list) r))) (λ i f r. short-within s r)
-finish-within (access (read p e a out)) s = of-program (Stays s) _ _ (λ f. full-within s _) (λ f. done-within s _ _ (λ h. h))
-finish-within (access (assert b a d)) s =
-    of-assert (Stays s) b a d s (λ f. full-within s _) (λ f k. done-within s _ _ (λ h. h)) (λ f k r. short-within s r) (λ f k r g. full-within s _) (λ f k r g. done-within s _ _ (λ h. omega (arith, space-room (s .rec) (s .words) (s .list) r)))
-finish-within (access (check b a d)) s = of-program (Stays s) _ _ (λ f. full-within s _) (λ f. done-within s _ _ (λ h. h))
-finish-within (nodeCall (evaluate f a)) s = done-within s _ _ (λ h. h)
-finish-within (nodeCall (variable v)) s = of-program (Stays s) _ _ (λ f. full-within s _) (λ f. done-within s _ _ (λ h. h))
-finish-within (nodeCall (ite f g h)) s = of-program (Stays s) _ _ (λ f. full-within s _) (λ f. done-within s _ _ (λ h. h))
+finish-within (access (write c a d)) s q =
+    let C = access (write c a d) in
+    of-write (Stays C s) c a d s (λ i. done-within C s _ _ (λ h. h)) (λ i f. full-within C s _) (λ i f r. done-within C s _ _ (one-within C s r)) (λ i f r. short-within C s r (not-idle-may (write-facts s c a d q) i))
+finish-within (access (read p e a out)) s q = program-within (access (read p e a out)) s _ _ (done-within (access (read p e a out)) s _ _ (λ h. h))
+finish-within (access (assert b a d)) s q =
+    let C = access (assert b a d) in
+    of-assert (Stays C s) b a d s (λ f. full-within C s _) (λ f k. done-within C s _ _ (λ h. h)) (λ f k r. short-within C s r (not-kept b a d s (needs-where s b a d q f k))) (λ f k r g. full-within C s _) (λ f k r g. done-within C s _ _ (one-within C s r))
+finish-within (access (check b a d)) s q = program-within (access (check b a d)) s _ _ (done-within (access (check b a d)) s _ _ (λ h. h))
+finish-within (nodeCall (evaluate f a)) s q = done-within (nodeCall (evaluate f a)) s _ _ (λ h. h)
+finish-within (nodeCall (variable v)) s q = program-within (nodeCall (variable v)) s _ _ (done-within (nodeCall (variable v)) s _ _ (λ h. h))
+finish-within (nodeCall (ite f g h)) s q = program-within (nodeCall (ite f g h)) s _ _ (done-within (nodeCall (ite f g h)) s _ _ (λ h. h))
 
-step-within : (c : Call) (s : State) → Within s (step c s)
+step-within : (c : Call) (s : State) → Within c s (step c s)
 unfolding step
 step-within c s = go (refusal c s) refl
   where
-    go : (k : ℕ) → refusal c s ≡ k → Within s (turnedDownBy k s (closed s (finish c s)))
-    go zero e = finish-within c s
+    go : (k : ℕ) → refusal c s ≡ k → Within c s (turnedDownBy k s (closed s (finish c s)))
+    go zero e = finish-within c s e
     go (suc k) e = record { below = λ h. h; eight = λ q. let z : suc k ≡ 8 = cc in absurd (true≢false (sym (rows-plain c s k e) ∙ rw z)) }
 
 -- no call changes how many it takes
@@ -85,41 +105,6 @@ run-within (c ∷ cs) s h =
     let t = step-takes c s in
     let R = run-within cs (step c s .after) (omega (arith, t, step-within c s .below h)) in
     (R .0 ∙ t, omega (arith, R .1, t))
-
--- an access that 8 refuses would add an entry, under some assignment
-abbrev Adds : Access → State → Type 0
-Adds c s = (k : ℕ) × (k < 2 ^ 64) × (addsEntry (s .rec .n) (s .rec .w) (entryValues (bitAt k) s) (argument (bitAt k) s c) ≡ true)
-
-abbrev Lacks : Access → State → Finish → Type 0
-Lacks c s z = closed s z .answer ≡ refused 8 → Adds c s
-
-full-lacks : (c : Access) (s : State) (t : Store) → Lacks c s (full t)
-unfolding closed
-full-lacks c s t e = let z : _≡_ {A = ℕ} 9 8 = cc in absurd (omega arith)
-
-done-lacks : (c : Access) (s : State) (g : Given) (t : State) → Lacks c s (gives g t)
-unfolding closed
-done-lacks c s g t e = absurd (false≢true (ap isRefused e))
-
-finish-lacks : (c : Access) (s : State) → refusal (access c) s ≡ 0 → Lacks c s (finish (access c) s)
-unfolding finishAccess
-finish-lacks (write c a d) s q =
-    of-write (Lacks (write c a d) s) c a d s (λ i. done-lacks (write c a d) s _ _) (λ i f. full-lacks (write c a d) s _) (λ i f r. done-lacks (write c a d) s _ _) (λ i f r e. not-idle-may (write-facts s c a d q) i)
-finish-lacks (read p en a out) s q = of-program (Lacks (read p en a out) s) _ _ (λ f. full-lacks (read p en a out) s _) (λ f. done-lacks (read p en a out) s _ _)
-finish-lacks (assert b a d) s q =
-    of-assert (Lacks (assert b a d) s) b a d s (λ f. full-lacks (assert b a d) s _) (λ f k. done-lacks (assert b a d) s _ _) (λ f k r e. adds (needs-where s b a d q f k)) (λ f k r g. full-lacks (assert b a d) s _) (λ f k r g. done-lacks (assert b a d) s _ _)
-  where
-    adds : (k : ℕ) × (k < 2 ^ 64) × (keeps (s .rec .n) (s .rec .w) (entryValues (bitAt k) s) (value (s .words) (bitAt k) b) (addressArgument (bitAt k) s a) (wordArgument (bitAt k) s d) ≡ false) → Adds (assert b a d) s
-    adds m = (m .0, m .1, not-kept-adds (s .rec .n) (s .rec .w) (entryValues (bitAt (m .0)) s) (value (s .words) (bitAt (m .0)) b) (addressArgument (bitAt (m .0)) s a) (wordArgument (bitAt (m .0)) s d) (m .2))
-finish-lacks (check b a d) s q = of-program (Lacks (check b a d) s) _ _ (λ f. full-lacks (check b a d) s _) (λ f. done-lacks (check b a d) s _ _)
-
-eight-adds : (c : Access) (s : State) → step (access c) s .answer ≡ refused 8 → Adds c s
-unfolding step
-eight-adds c s e = go (refusal (access c) s) refl e
-  where
-    go : (k : ℕ) → refusal (access c) s ≡ k → turnedDownBy k s (closed s (finish (access c) s)) .answer ≡ refused 8 → Adds c s
-    go zero q e = finish-lacks c s q e
-    go (suc k) q e = let z : suc k ≡ 8 = cc in absurd (true≢false (sym (rows-plain (access c) s k q) ∙ rw z))
 
 -- one access more
 count-more : (n w : ℕ) (list : (ℕ → Bool) → List Entry) (es : List Fed) (e : Fed) → entryCountFrom n w list (es ++ (e ∷ [])) ≡ entryCountFrom n w list es + newEntries n w (λ φ. entriesAfterAll (list φ) (under φ es)) e
@@ -139,7 +124,7 @@ budget-exactly s B cs =
         let t = run cs s in
         let A = run-agrees s B cs 0 (omega arith) in
         let f : Fed = λ φ. argument φ t c in
-        let one : newEntries (t .rec .n) (t .rec .w) (λ φ. entryValues φ t) f ≡ 1 = ap (λ (b : Bool). cond b 1 0) (some-exactly (λ φ. addsEntry (t .rec .n) (t .rec .w) (entryValues φ t) (f φ)) .1 (eight-adds c t e)) in
+        let one : newEntries (t .rec .n) (t .rec .w) (λ φ. entryValues φ t) f ≡ 1 = ap (λ (b : Bool). cond b 1 0) (some-exactly (λ φ. addsEntry (t .rec .n) (t .rec .w) (entryValues φ t) (f φ)) .1 (step-within (access c) t .eight e .1)) in
         let same = new-as (t .rec .n) (t .rec .w) (s .rec .n) (s .rec .w) (λ φ. entryValues φ t) (λ φ. entriesAfterAll [] (events φ s cs)) f (A .n-is) (A .w-is) (λ a small. agrees-values (run-agrees s B cs a small)) in
         let M = count-more (s .rec .n) (s .rec .w) (λ φ. []) (fed s cs) f in
-        omega (arith, C, R .0, step-within (access c) t .eight e, one, same, M)
+        omega (arith, C, R .0, step-within (access c) t .eight e .0, one, same, M)

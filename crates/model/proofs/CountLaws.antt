@@ -12,7 +12,7 @@ use Rattle.model.specs.Pairs.{Pair, at, admit}
 use Rattle.model.specs.Published.{Entry, look, inside, keeps}
 use Rattle.model.specs.Array.{Event, writes, reads, asserts, checks, nothing}
 use Rattle.model.specs.Held.{entriesAfter}
-use Rattle.model.specs.Count.{underSome, SomeExactly, samePair, differs, addsEntry, newEntries, entryCountFrom, EntryExactly, KeptExactly, CountExactly, accessesByHand, ofVariable8, CountedByHand}
+use Rattle.model.specs.Count.{underSome, SomeExactly, samePair, differs, addsEntry, newEntries, entryCountFrom, AddsExactly, EntryExactly, KeptExactly, CountExactly, accessesByHand, ofVariable8, CountedByHand}
 use Rattle.model.specs.Step.{State, write, read, assert, check, evaluate, variable, ite, Call, access, nodeCall, Answer, refused, entered, kept, done, isRefused, Result, Finish, closed, finishAccess, finishNode, finish, step, run}
 use Rattle.model.specs.Claims.{argument, event, Fed, fed}
 use Rattle.model.specs.Frames.{isWrite, isAssert, RefusalLeaves}
@@ -88,17 +88,13 @@ module _ (f : (ℕ → Bool) → Bool) where
   unfolding SomeExactly
   one-new t k a small is e = rw (some-exactly f .1 (a, small, is)) (omega (arith, e))
 
--- of one call, the claim
-abbrev Exact : Call → State → Type 0
-Exact c s = step c s .after .rec .entries ≡ s .rec .entries + newEntries (s .rec .n) (s .rec .w) (λ φ. entryValues φ s) (λ φ. event φ s c (step c s .answer))
-
-refused-exact : (c : Call) (s : State) → isRefused (step c s .answer) ≡ true → Exact c s
+refused-exact : (c : Call) (s : State) → isRefused (step c s .answer) ≡ true → AddsExactly c s
 unfolding RefusalLeaves
 refused-exact c s r =
     let k = refused-number (step c s .answer) r in
     none-new _ _ _ (λ a small. rw (k .1)) (ap (λ (t : State). t .rec .entries) (refusal-leaves c s (k .0) (k .1)))
 
-write-exact : (c a d : List ℕ) (s : State) → isRefused (step (access (write c a d)) s .answer) ≡ false → Exact (access (write c a d)) s
+write-exact : (c a d : List ℕ) (s : State) → isRefused (step (access (write c a d)) s .answer) ≡ false → AddsExactly (access (write c a d)) s
 write-exact c a d s n =
     let F = write-facts s c a d (acts (access (write c a d)) s n .0) in
     idle-or-entered s c a d n (λ i e. none-new _ _ _ (λ k small. rw e (idle-off c (s .words) (bitAt k) i)) (ap (λ (x : Result). x .after .rec .entries) e))
@@ -126,10 +122,10 @@ module _ (b : ℕ) (a d : List ℕ) (s : State) where
       let m = entered-where s b a d q in
       g (q, ap (λ (x : Result). x .after .rec .entries) e, (m .0, m .1, not-kept-adds (s .rec .n) (s .rec .w) (entryValues (bitAt (m .0)) s) (value (s .words) (bitAt (m .0)) b) (addressArgument (bitAt (m .0)) s a) (wordArgument (bitAt (m .0)) s d) (m .2))))
 
-  assert-exact : isRefused (step (access (assert b a d)) s .answer) ≡ false → Exact (access (assert b a d)) s
+  assert-exact : isRefused (step (access (assert b a d)) s .answer) ≡ false → AddsExactly (access (assert b a d)) s
   assert-exact n = keeps-or-adds n (λ K. none-new _ _ _ (λ k small. rw (K .0) (K .2 k small)) (K .1)) (λ E. entered-exact (E .0) (E .1) (E .2 .0) (E .2 .1) (E .2 .2))
     where
-      entered-exact : step (access (assert b a d)) s .answer ≡ done entered → step (access (assert b a d)) s .after .rec .entries ≡ s .rec .entries + 1 → (k : ℕ) → k < 2 ^ 64 → addsUnder k ≡ true → Exact (access (assert b a d)) s
+      entered-exact : step (access (assert b a d)) s .answer ≡ done entered → step (access (assert b a d)) s .after .rec .entries ≡ s .rec .entries + 1 → (k : ℕ) → k < 2 ^ 64 → addsUnder k ≡ true → AddsExactly (access (assert b a d)) s
       entered-exact e m k small t = one-new _ _ _ k small (rw e t) m
 
 pub kept-exactly : KeptExactly
@@ -163,7 +159,7 @@ finish-stays (nodeCall (evaluate f a)) p q s = refl
 finish-stays (nodeCall (variable v)) p q s = of-program (Stays s) _ _ (λ f. refl) (λ f. refl)
 finish-stays (nodeCall (ite f g h)) p q s = of-program (Stays s) _ _ (λ f. refl) (λ f. refl)
 
-others-exact : (c : Call) (s : State) → isWrite c ≡ false → isAssert c ≡ false → isRefused (step c s .answer) ≡ false → Exact c s
+others-exact : (c : Call) (s : State) → isWrite c ≡ false → isAssert c ≡ false → isRefused (step c s .answer) ≡ false → AddsExactly c s
 others-exact c s p q n =
     none-new _ _ _ (λ a small. others-none c p q (s .rec .n) (s .rec .w) (entryValues (bitAt a) s) (bitAt a) s (step c s .answer)) (ap (λ (x : Result). x .after .rec .entries) (acts c s n .1) ∙ finish-stays c p q s)
 
@@ -171,7 +167,7 @@ pub entry-exactly : EntryExactly
 unfolding EntryExactly
 entry-exactly c s = split (isRefused (step c s .answer)) (refused-exact c s) (go c)
   where
-    go : (c : Call) → isRefused (step c s .answer) ≡ false → Exact c s
+    go : (c : Call) → isRefused (step c s .answer) ≡ false → AddsExactly c s
     go (access (write c a d)) n = write-exact c a d s n
     go (access (read p e a out)) n = others-exact (access (read p e a out)) s refl refl n
     go (access (assert b a d)) n = assert-exact b a d s n

@@ -6,7 +6,7 @@ use mathlib.Core.List.{List, [], _∷_, _++_}
 use Prim.Native.Nat.{ℕ, zero, suc, _+_, _^_, _<_, _≤_}
 use Rattle.conditions.specs.Value.{value}
 use Rattle.conditions.specs.Assignment.{bitAt}
-use Rattle.model.specs.Pairs.{Pair, at}
+use Rattle.model.specs.Pairs.{Pair, only, at}
 use Rattle.model.specs.Record.{Record, listCapacity}
 use Rattle.model.specs.Published.{Entry, look}
 use Rattle.model.specs.Array.{Event, writes, reads, asserts, checks, nothing}
@@ -57,8 +57,11 @@ abbrev pub entryCount : ℕ → ℕ → List Fed → ℕ
 entryCount n w es = entryCountFrom n w (λ φ. []) es
 
 -- of one call, from any state: its entries are more by one exactly where it adds an entry to those of the state
+abbrev pub AddsExactly : Call → State → Type 0
+AddsExactly c s = step c s .after .rec .entries ≡ s .rec .entries + newEntries (s .rec .n) (s .rec .w) (λ φ. entryValues φ s) (λ φ. event φ s c (step c s .answer))
+
 unfoldable pub EntryExactly : Type 0
-EntryExactly = (c : Call) (s : State) → step c s .after .rec .entries ≡ s .rec .entries + newEntries (s .rec .n) (s .rec .w) (λ φ. entryValues φ s) (λ φ. event φ s c (step c s .answer))
+EntryExactly = (c : Call) (s : State) → AddsExactly c s
 
 -- An assert: under an assignment with b its data differs from the look of the state's list. It is entered exactly where some assignment has that, and else kept
 abbrev pub DiffersUnder : State → ℕ → List ℕ → List ℕ → ℕ → Type 0
@@ -102,19 +105,16 @@ unfoldable pub BudgetExactly : Type 0
 BudgetExactly = (s : State) → Begins s → (cs : List Call) → Budget s cs
 
 -- Counted by hand: accesses of one location bit and one data bit, under each value of one variable
-abbrev pub is : Bool → Pair
-is b = record { h = b; l = not b }
-
 abbrev pub accessesByHand : List (Bool → Event)
 accessesByHand =
-    (λ v. writes (is true) (is false ∷ []) (is true ∷ []))  -- one
-    ∷ (λ v. writes (is v) (is true ∷ []) (is false ∷ []))  -- one: the enable may be 1
-    ∷ (λ v. writes (is false) (is true ∷ []) (is true ∷ []))  -- none: it is 0 under every assignment
-    ∷ (λ v. asserts true (is false ∷ []) (is true ∷ []))  -- none: the look is 1
-    ∷ (λ v. asserts v (is true ∷ []) (is false ∷ []))  -- none: where b holds, the look is 0
-    ∷ (λ v. asserts true (is true ∷ []) (is false ∷ []))  -- one: where the variable is 0, the look is X
-    ∷ (λ v. reads 0 (is true) (is true ∷ []))  -- none
-    ∷ (λ v. checks true (is true ∷ []) (is false ∷ []))  -- none
+    (λ v. writes (only true) (only false ∷ []) (only true ∷ []))  -- one
+    ∷ (λ v. writes (only v) (only true ∷ []) (only false ∷ []))  -- one: the enable may be 1
+    ∷ (λ v. writes (only false) (only true ∷ []) (only true ∷ []))  -- none: it is 0 under every assignment
+    ∷ (λ v. asserts true (only false ∷ []) (only true ∷ []))  -- none: the look is 1
+    ∷ (λ v. asserts v (only true ∷ []) (only false ∷ []))  -- none: where b holds, the look is 0
+    ∷ (λ v. asserts true (only true ∷ []) (only false ∷ []))  -- one: where the variable is 0, the look is X
+    ∷ (λ v. reads 0 (only true) (only true ∷ []))  -- none
+    ∷ (λ v. checks true (only true ∷ []) (only false ∷ []))  -- none
     ∷ (λ v. nothing)  -- none: refused, or a node call
     ∷ []
 

@@ -18,6 +18,10 @@ legal p = p .h || p .l
 abbrev pub known : Pair → Bool
 known p = not (p .h && p .l)
 
+-- the pair that may be b and nothing else
+abbrev pub only : Bool → Pair
+only b = record { h = b; l = not b }
+
 -- "A pair admits 1 where h holds and 0 where l holds;"
 abbrev pub admit : Pair → Bool → Bool
 admit p true = p .h

@@ -2,7 +2,7 @@
 use mathlib.Core.Bool.{Bool, true, false, _&&_, _||_, not, cond}
 use mathlib.Core.List.{List, [], _∷_, _++_}
 use Prim.Native.Nat.{ℕ, zero, suc}
-use Rattle.model.specs.Pairs.{Pair, X, admits, unique, at}
+use Rattle.model.specs.Pairs.{Pair, X, only, admits, unique, at}
 
 -- an entry's h, s, address and data
 pub record Entry : Type 0 where
@@ -79,4 +79,4 @@ keeps n w es b a d = not b || inside w (at d) (look n es a) && inside w (look n 
 
 -- "Write((b, Not b),a,d)": an assert's control pair
 abbrev pub control : Bool → Pair
-control b = record { h = b; l = not b }
+control b = only b
