@@ -22,6 +22,8 @@ from reference import LIST_WORDS  # noqa: E402
 
 USER = 8
 PARITY = range(8, 64)
+DENSE = "dense diagrams"
+DENSE_READS = "dense-300-reads"
 
 Bench = namedtuple("Bench", "kind name data what")
 
@@ -220,7 +222,7 @@ def read_benches(maker):
     yield maker.bench(kind, "held-600-reads", held_reads(600),
                       "600 reads of 64 entries at n=4, w=4 by four ports, enables 1, 0, X and variables")
     count, case = fullest(maker, lambda count: dense_case(8, 2, 2, 8, (ONE, ZERO, X), count, reads=300))
-    yield maker.bench(kind, "dense-300-reads", case,
+    yield maker.bench(kind, DENSE_READS, case,
                       "300 reads of %d entries at n=2, w=2, dense conditions of 8 variables, nearly full" % (count + 4))
     case = full_list(4, 2, constant_address, variable_data, entries=100)
     many_constant_reads(case, 600)
@@ -276,7 +278,7 @@ def fullest(maker, make, most=30):
 
 
 def dense_benches(maker):
-    kind = "dense diagrams"
+    kind = DENSE
     both, three = (ONE, ZERO), (ONE, ZERO, X)
     for seed, n, w, size, leaves in ((1, 1, 1, 11, both), (2, 1, 1, 10, three), (3, 2, 2, 10, both),
                                      (4, 2, 2, 9, three), (5, 2, 8, 8, three), (6, 3, 4, 9, both),
@@ -301,6 +303,11 @@ def dense_benches(maker):
     yield maker.bench(kind, "file-5461", file_of_nodes(5459), "a store of 5,461 nodes from the file, and a read")
     yield maker.bench(kind, "file-random", random_file(9),
                       "a store of random nodes from the file, nearly full, and accesses")
+
+
+def is_dense(bench):
+    """Whether the node searches of a case are added up."""
+    return bench.kind == DENSE or bench.name == DENSE_READS
 
 
 def file_of_nodes(count):

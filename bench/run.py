@@ -6,10 +6,11 @@
 Builds the program over BuDDy with -O2 (apt-get install g++ libbdd-dev), makes the case
 files under target/bench/, runs both programs on each K times in turn, checks that they print
 the same text, and prints tables with ratios.  Seconds are the processor's, start-up counted,
-the least of K runs.  Then writes BENCHMARK.md and its plots into docs/, or into FOLDER; with
---quick, which runs fewer cases fewer times, into target/bench/.  bench/WHY.md says why a goal
-is not met; BENCHMARK.md names it.  The status is 1 where texts differ, where a case that must
-end in well under a second does not, or where a program failed.
+the least of K runs.  The node searches of the dense cases are added up by the second program,
+which takes some seconds in all.  Then writes BENCHMARK.md and its plots into docs/, or into
+FOLDER; with --quick, which runs fewer cases fewer times, into target/bench/.  bench/WHY.md says
+why a goal is not met; BENCHMARK.md names it.  The status is 1 where texts differ, where a case
+that must end in well under a second does not, or where a program failed.
 """
 
 import argparse
@@ -23,6 +24,7 @@ import benchcases
 import build
 import report
 from measure import Meter
+from reference import searches_of
 
 
 def trial_with(program):
@@ -70,7 +72,8 @@ def kinds_table(bench, maker, quick):
     for case in benchcases.all_benches(maker, quick):
         results = bench.run(case.name, case.data)
         rows.append(report.Row(case.kind, case.name, case.what, bench.nodes(case.data),
-                               *(result.seconds for result in results)))
+                               *(result.seconds for result in results),
+                               searches_of(case.data) if benchcases.is_dense(case) else None))
     return rows
 
 

@@ -19,22 +19,30 @@ The input has items of eight numbers of four bytes, low byte first, on a buffer 
     22 0 0 0 0 NODE                       whether an argument may name the node
     23 0 H L, 24 0 F G H                  whether some assignment makes the pair neither, the three hold
     25 0 F 0 0 ROOM, 26 0 F               the text of F in so many of 20 bytes, or in 65,536
+    27 V LOW HIGH                         the node search for these words, V being any number: FOUND NODE
+                                          COMPARED, where FOUND is 1 with a match, NODE; 0 with none, and
+                                          2 where LOW or HIGH is not below the count, so that nothing is
+                                          searched; what is not said is 0
 
 What must be printed is found with tools/tables.py, but for the parity of 56 variables, which has too
 many for tables: there it is derived (class Parity), and the derivation is held to tables for fewer.
+The node search goes over the words, one node after the other (wrongsearches.py).
 """
 
 import sys
 
 from rooms import ROOT
 from callscript import LENGTH, WORD, main, runs
-from calls import tables_of, value
+from calls import halves, tables_of, value
 from tables import Conditions, Refused, is_standard, node_capacity
+from wrongsearches import node_search
 
 TERMINALS = [64, 0, 0, 64, 1, 1]
 END = 10
 VARIABLE, ITE, NOT, AND, OR, ANY = range(11, 17)
 NAMES = {VARIABLE: "variable", ITE: "ite", NOT: "not", AND: "and", OR: "or", ANY: "any"}
+SEARCH = 27
+NONE, FOUND, NOT_ASKED = range(3)
 ASSIGNMENTS = 0, 0xff, 0x100, 1 << 63, (1 << 63) + 0x100, (1 << 64) - 1, (1 << 63) - 1
 
 
@@ -87,6 +95,13 @@ class Store:
 
     def is_user(self, node):
         return node < len(self.nodes) and self.nodes[node][0] >= 8
+
+    def search(self, variable, low, high):
+        """Whether a node is found, the node, and how many were compared."""
+        if max(low, high) >= len(self.nodes):
+            return NOT_ASKED, 0, 0
+        node, compared = node_search(self.nodes, variable, low, high)
+        return (NONE, 0, compared) if node is None else (FOUND, node, compared)
 
 
 class Parity:
@@ -217,6 +232,12 @@ class Script:
     def long_text(self, node):
         self.item(26, 0, node)
         self.line("text of %d" % node, "%s at 65536 1" % self.store.text(node)[:29])
+
+    def search(self, variable, low, high):
+        self.item(SEARCH, variable, low, high)
+        answer = self.store.search(variable, low, high)
+        self.line("search %d %d %d" % (variable, low, high), " %d %d %d" % answer)
+        return answer
 
     def show(self, place, many):
         self.item(4, place, many)
@@ -351,11 +372,85 @@ def largest(s):
     s.show(49146, 9)
 
 
+def few_nodes(s):
+    """The search on few nodes: either child the larger one, the same children on two variables; and words that
+    no Make searches for, or that are no nodes."""
+    nodes = [(9, 0, 1), (9, 1, 0), (8, 0, 1), (8, 2, 3), (8, 3, 2), (7, 4, 0), (7, 1, 4), (7, 4, 1)]
+    last = len(nodes) + 1
+    s.begin("search among %d nodes" % (last + 1), TERMINALS + halves(nodes), last + 1)
+    for number, node in enumerate(nodes, 2):
+        assert s.search(*node) == (FOUND, number, number - max(node[1:]))
+    # On another variable, with the children the other way round, with one child another; with the last node and
+    # the one before it as larger child; with equal children, the words of terminals, variables past 63.
+    other = (10, 0, 1), (7, 0, 1), (8, 1, 0), (7, 0, 4), (8, 0, 3), (8, 3, 0), (7, 6, 4)
+    near_last = (6, 9, 0), (6, 0, 9), (6, 8, 1), (6, 1, 8), (6, 8, 9)
+    no_make = (8, 2, 2), (8, 0, 0), (8, 9, 9), (64, 0, 0), (64, 1, 1), (64, 0, 1), (72, 0, 1), (WORD - 1, 2, 3)
+    for words in other + near_last + no_make:
+        assert s.search(*words) == (NONE, 0, last - max(words[1:]))
+    for low, high in ((10, 0), (0, 10), (10, 10), (9, 11), (WORD - 1, 0), (0, WORD - 1)):
+        assert s.search(9, low, high) == (NOT_ASKED, 0, 0)
+
+
+def each_distance(s):
+    """The search for each of nine nodes above the larger child, the last node being one of 14 above it; and for
+    the node that stands in the words past the last one."""
+    ends = [(64, 0, 0), (64, 1, 1)]
+    alike = ends + [(v, 0, 1) for v in range(63, 48, -1)]
+    below = ends + [(v, 0, 1) for v in range(63, 53, -1)]
+    unlike = below + [(0, low, 11) for low in range(11)] + [(0, 11, high) for high in range(4)]
+    for nodes, larger in ((alike, 1), (unlike, 11)):
+        for count in range(larger + 1, len(nodes)):
+            s.begin("search among %d nodes" % count, halves(nodes), count)
+            for node in range(larger + 1, min(larger + 10, count)):
+                assert s.search(*nodes[node]) == (FOUND, node, node - larger)
+            assert s.search(*nodes[count]) == (NONE, 0, count - 1 - larger)
+
+
+def after_building(s):
+    """The search finds a node as soon as it is made; a full store is searched as any other."""
+    s.begin("search among 2 nodes, with room for 2", TERMINALS + [0] * 6, 2)
+    assert s.search(8, 0, 1) == (NONE, 0, 0)
+    s.build(VARIABLE, 8)
+    assert s.search(8, 0, 1) == (FOUND, 2, 1)
+    assert s.search(8, 1, 0) == (NONE, 0, 1)
+    s.build(NOT, f=2)
+    assert s.search(8, 1, 0) == (FOUND, 3, 2)
+    s.build(VARIABLE, 9)
+    assert s.search(8, 1, 0) == (FOUND, 3, 2)
+    assert s.search(9, 0, 1) == (NONE, 0, 2)
+
+
+def many_nodes(s):
+    """The search on 16,384 nodes, of which those from 128 up are on variable 0 with children below 128."""
+    last = 16383
+    s.begin("search among 16384 nodes", filled(16384, 49155), 16384)
+    # Nine nodes above node 1, the last ten, and some between.
+    for node in range(2, 11):
+        assert s.search(64 - node // 2, node % 2, 1 - node % 2) == (FOUND, node, node - 1)
+    for distance in range(10):
+        assert s.search(0, 127, 126 - distance) == (FOUND, last - distance, last - distance - 127)
+    for words in ((1, 1, 0), (0, 0, 1), (0, 63, 64), (0, 64, 63)):
+        assert s.search(*words)[0] == FOUND
+    # None above nodes 0, 1 and 127, and with 0 to 9 nodes to compare.
+    for words in ((0, 0, 0), (64, 1, 0), (1, 0, 127), (1, 127, 0), (0, 127, 127)):
+        assert s.search(*words) == (NONE, 0, last - max(words[1:]))
+    for distance in range(10):
+        assert s.search(0, last - distance, distance) == (NONE, 0, distance)
+    assert s.search(0, 0, 16384) == (NOT_ASKED, 0, 0)
+    s.begin("search among 16383 nodes", filled(16384, 49155), 16383)
+    assert s.search(0, 127, 126) == (NONE, 0, 16382 - 127)
+
+
+def searches(s):
+    for group in (few_nodes, each_distance, after_building, many_nodes):
+        group(s)
+
+
 def script():
     s = Script()
     for words in (5, 6, 7, 8, 49151, 49152, 60000):
         s.capacity(words)
-    for group in (standard_form, variables, room, parity, largest):
+    for group in (standard_form, variables, room, parity, largest, searches):
         group(s)
     return s
 

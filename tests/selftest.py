@@ -4,8 +4,9 @@
     python3 tests/selftest.py [-v]
 
 They hold the reference to the paper's file, rulings and small inputs, to all plain
-runs of small cases, its count of entries to its list and to one found bit by bit, and
-all to wrong programs, each of which the cases must find out.
+runs of small cases, its count of entries to its list and to one found bit by bit, its
+node searches to ones that go from node to node and to sums worked out by hand, and all to
+wrong programs, each of which the cases must find out.
 """
 
 import functools
@@ -20,6 +21,7 @@ import calls
 import callscript
 import cases
 import casetext
+import conditioncalls
 import derivedcases
 import entrycount
 import memorycalls
@@ -32,11 +34,13 @@ import storedcases
 import tables
 import wrongcounts
 import wrongreads
+import wrongsearches
 import wrongwrites
 from casefile import CaseFile, NotACaseFile, ONE, X, ZERO, parse
 from randomcases import Random
 from reference import Event, memcase, printed, run_case
-from tables import Conditions, TooManyVariables
+from tables import TERMINALS, Conditions, TooManyVariables
+from wrongsearches import node_search
 
 
 @functools.lru_cache
@@ -357,6 +361,156 @@ class EntryCounts(unittest.TestCase):
             told += chain_count(steps, (0, 8, 9)) != entries
         self.assertGreater(refused, 400)
         self.assertGreater(told, 50)
+
+
+# Node searches.
+
+def store_and_tables(seed):
+    """A small random store, and tables over most of its variables."""
+    rng = randomcalls.Words(seed)
+    variables = [0, 8, 9, 10]
+    nodes = randomcalls.store(rng, variables, 14)
+    conditions = Conditions(rng.some(variables, 3), 100)
+    conditions.load(nodes[2:])
+    return nodes, conditions
+
+
+def searched_words(nodes, conditions):
+    """What a Make may search for: unequal children on later variables."""
+    for variable in conditions.variables:
+        children = [number for number, table in enumerate(conditions.tables)
+                    if table is not None and nodes[number][0] > variable]
+        for low, high in itertools.permutations(children, 2):
+            yield variable, low, high
+
+
+def table_search(conditions, variable, low, high):
+    children = conditions.tables[low], conditions.tables[high]
+    return conditions.search(conditions.join(variable, *children), *children)
+
+
+def finds_out(nodes, conditions, wrong):
+    return any(wrong(node_search, nodes, *words) != table_search(conditions, *words)
+               for words in searched_words(nodes, conditions))
+
+
+def search_by_nodes(_right, conditions, table, low, high):
+    """The search from node to node, in place of the difference."""
+    words = conditions.words(2)
+    nodes = TERMINALS + list(zip(words[0::3], words[1::3], words[2::3]))
+    return node_search(nodes, conditions.variable(table), conditions.numbers[low], conditions.numbers[high])
+
+
+def search_operations():
+    """What the operations of `conditions_test` print of searches, or None where one is not as it was meant."""
+    script = conditioncalls.Script()
+    try:
+        conditioncalls.few_nodes(script)
+        conditioncalls.each_distance(script)
+    except AssertionError:
+        return None
+    return script.output()
+
+
+def ruling_2(node_words):
+    """R2: 1@0, then a read of 0."""
+    case = CaseFile()
+    case.write(ONE, [ZERO], [ONE])
+    case.read(ONE, [ZERO])
+    return run_case(case.bytes(), node_words)
+
+
+def ruling_2_sums(node_words):
+    return reference.node_searches(ruling_2(node_words))
+
+
+def variable_sums():
+    """Variable 8, Or and And of it with itself, twice, and its negation."""
+    conditions = Conditions([8], 10)
+    eight = conditions.make(8, 0, conditions.true)
+    for _ in range(2):
+        conditions.or_(eight, eight)
+        conditions.and_(eight, eight)
+    conditions.not_(eight)
+    return conditions.searches()
+
+
+def worked_sums():
+    return [ruling_2_sums(node_words) for node_words in (12, 9, 6, 5)] + [variable_sums()]
+
+
+class NodeSearches(unittest.TestCase):
+    """The node search, which is a difference of numbers, against one that goes from node to node; and the sums
+    of searches and of nodes compared."""
+
+    def test_small_stores(self):
+        answers = Counter()
+        for seed in range(200):
+            nodes, conditions = store_and_tables(seed)
+            for words in searched_words(nodes, conditions):
+                found = table_search(conditions, *words)
+                self.assertEqual(found, node_search(nodes, *words), (seed, words))
+                answers["none" if found[0] is None else "match"] += 1
+        self.assertGreater(answers["match"], 1000)
+        self.assertGreater(answers["none"], 3000)
+
+    def test_random_cases(self):
+        for seed in range(60):
+            data = randomcases.small(Random(seed)).bytes()
+            found = reference.searches_of(data)
+            with planted(Conditions, "search", search_by_nodes):
+                self.assertEqual(reference.searches_of(data), found, seed)
+
+    def test_wrong_searches_are_found(self):
+        stores = [store_and_tables(seed) for seed in range(20)]
+        for wrong in wrongsearches.WRONG_SEARCHES:
+            self.assertTrue(any(finds_out(*store, wrong) for store in stores), wrong.__name__)
+
+    def test_first_match(self):
+        """Where a node stands twice, which no store in standard form shows."""
+        nodes = TERMINALS + [(9, 0, 1), (8, 0, 1), (9, 0, 1)]
+        self.assertEqual(node_search(nodes, 9, 0, 1), (2, 1))
+        for wrong in wrongsearches.WRONG_WHERE_TWICE:
+            self.assertFalse(any(finds_out(*store_and_tables(seed), wrong) for seed in range(20)), wrong.__name__)
+            self.assertNotEqual(wrong(node_search, nodes, 9, 0, 1), (2, 1), wrong.__name__)
+
+    def test_stored_operations_find_each(self):
+        right = search_operations()
+        self.assertIsNotNone(right)
+        for wrong in wrongsearches.WRONG_SEARCHES:
+            with planted(conditioncalls, "node_search", wrong):
+                self.assertNotEqual(search_operations(), right, wrong.__name__)
+
+    def test_sums_of_ruling_2(self):
+        """Worked out.  The write builds nothing.  The read:
+
+        index 0            Make(0,0,1)  none, 2 nodes: 2-1-1 = 0; node 2
+        Ite(2,0,1)         Make(0,1,0)  none, 3 nodes: 3-1-1 = 1; node 3, which is `in`
+        index 0, entry     Make(0,0,1)  node 2: 2-1 = 1; Ite(2,0,1) is remembered
+        And(in,3)          Make(0,1,0)  node 3, which is g: 3-1 = 2; this is m, and hm
+        Ite(hm,0,1)        Make(0,0,1)  node 2: 2-1 = 1; the l of the bit
+        And(in,2)          equal children, so that nothing is searched; it is 0
+        """
+        self.assertEqual(ruling_2_sums(12), ((5, 0 + 1 + 1 + 2 + 1), (4, 0 + 1 + 1 + 1)))
+        # The second search, and with less room the first, is followed by 9; with no room for terminals none is.
+        self.assertEqual(ruling_2_sums(9), ((2, 0 + 1),) * 2)
+        self.assertEqual(ruling_2_sums(6), ((1, 0),) * 2)
+        self.assertEqual(ruling_2_sums(5), ((0, 0),) * 2)
+
+    def test_sums_of_a_variable(self):
+        """Worked out: Make(8,0,1), none, 2-1-1 = 0; Or is Ite(2,1,2) and And is Ite(2,2,0), both node 2, which is h
+        and g, 2-1 = 1 each, and then remembered; Not is Make(8,1,0), none, 3-1-1 = 1."""
+        self.assertEqual(variable_sums(), ((4, 0 + 1 + 1 + 1), (2, 0 + 1)))
+
+    def test_wrong_sums_are_found(self):
+        right = worked_sums()
+        for wrong in wrongsearches.WRONG_SUMS:
+            with planted(Conditions, "make", wrong):
+                self.assertNotEqual(worked_sums(), right, wrong.__name__)
+
+    def test_text(self):
+        self.assertEqual(reference.searches_text(ruling_2(12)),
+                         "searches 5 compared 5\npast g and h: searches 4 compared 3\n")
 
 
 # Wrong programs: a class, the name of a function of it, and the wrong function, which

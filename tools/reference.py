@@ -9,11 +9,16 @@ Each access is built in the paper's order, no step left out, so that nodes are
 numbered and counted as the paper counts them and refusal 9 comes where it must.
 The number in the last line is counted from the accesses (entrycount.py) and not from the list.
 
-    python3 tools/reference.py [--node-words N] [--list-words N] [--text-bytes N]
+    python3 tools/reference.py [--searches] [--node-words N] [--list-words N] [--text-bytes N]
 
 reads a case file on standard input and prints what `memcase` must print.  With
-one of the options it prints what the library's call must answer, and reads all
-the bytes.  Names in this file are the paper's (01).
+the length of a buffer it prints what the library's call must answer, and reads all
+the bytes.  With --searches it prints the node searches of the case in place of its
+text, up to the refusal of a refused one: how many Makes of unequal children
+searched, and how many nodes they compared; then the same without those of an Ite
+whose g or h is the node.  Every answer of Ite is remembered here and none is built
+twice, so that these are the searches of a program which forgets nothing.  Names in
+this file are the paper's (01).
 """
 
 import argparse
@@ -22,8 +27,8 @@ from collections import namedtuple
 
 from calls import ASSERT, CHECK, READ, WRITE, Memory, do_access, in_range, test_pairs, test_port
 from entrycount import entry_count
-from tables import (TABLE_VARIABLES, TERMINALS, USER_VARIABLE, Conditions, Refused, TooManyVariables, is_standard,
-                    node_capacity)
+from tables import (TABLE_VARIABLES, TERMINALS, USER_VARIABLE, Conditions, Refused, Searches, TooManyVariables,
+                    is_standard, node_capacity)
 
 NODE_WORDS = 16384
 LIST_WORDS = 16384
@@ -247,16 +252,32 @@ def memcase(data):
     return printed(run_case(data[:INPUT_BYTES]))
 
 
+def node_searches(outcome):
+    """The node searches of a case: all, and those past g and h.  Before there are nodes there are none."""
+    return outcome.conditions.searches() if outcome.conditions else (Searches(0, 0), Searches(0, 0))
+
+
+def searches_of(data):
+    """The node searches of `memcase` on these bytes: all, and those past g and h."""
+    return node_searches(run_case(data[:INPUT_BYTES]))
+
+
+def searches_text(outcome):
+    lines = ["searches %d compared %d" % (found.number, found.compared) for found in node_searches(outcome)]
+    return "%s\npast g and h: %s\n" % tuple(lines)
+
+
 def main():
     parser = argparse.ArgumentParser(description="Print what a case file must print.")
+    parser.add_argument("--searches", action="store_true", help="print the node searches in place of the text")
     parser.add_argument("--node-words", type=int)
     parser.add_argument("--list-words", type=int)
     parser.add_argument("--text-bytes", type=int)
-    options = parser.parse_args()
-    given = {name: value for name, value in vars(options).items() if value is not None}
+    given = {name: value for name, value in vars(parser.parse_args()).items() if value is not None}
+    shown = searches_text if given.pop("searches") else printed
     data = sys.stdin.buffer.read()
     try:
-        sys.stdout.write(printed(run_case(data, **given)) if given else memcase(data))
+        sys.stdout.write(shown(run_case(data, **given) if given else run_case(data[:INPUT_BYTES])))
     except TooManyVariables as error:
         sys.exit("reference: %s variables in use; truth tables do %d" % (error, TABLE_VARIABLES))
 

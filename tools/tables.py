@@ -5,6 +5,8 @@ diagrams are canonical, so two nodes are the same exactly where their tables are
 makes a new node exactly where its table was not yet seen.  Names are the paper's (01).
 """
 
+from collections import namedtuple
+
 NODE_LIMIT = 16384
 TERMINAL = 64
 TERMINALS = [(TERMINAL, 0, 0), (TERMINAL, 1, 1)]
@@ -13,6 +15,9 @@ VARIABLES = 64
 
 # A truth table of 16 variables has 65,536 bits.
 TABLE_VARIABLES = 16
+
+# How many node searches there were, and how many nodes they compared in all.
+Searches = namedtuple("Searches", "number compared")
 
 
 class Refused(Exception):
@@ -53,6 +58,8 @@ class Conditions:
     Bit a of a table is the condition's value under assignment a, in which bit j is the
     value of the j-th variable in use.  `tables` has each node's table, None where the node
     turns on a variable that is not in use: no table in use can be that node's.
+    `searched_near` has how many nodes each search compared that was for g or h of the Ite that
+    asked, `searched_past` the same of every other search.
     """
 
     def __init__(self, variables, capacity):
@@ -70,6 +77,8 @@ class Conditions:
         self._ite = {}
         self._any = {}
         self._lengths = {0: 1, self.true: 1}
+        self.searched_near = []
+        self.searched_past = []
 
     @staticmethod
     def _mask(place, size):
@@ -127,13 +136,28 @@ class Conditions:
         mask = self.masks[self.place[variable]]
         return low & ~mask | high & mask
 
-    def make(self, variable, low, high):
+    def search(self, table, low, high):
+        """The node search for a table with these children, which begins above the larger child and ends at
+        the first match: the match, None where there is none, and how many nodes were compared."""
+        match = self.numbers.get(table)
+        last = len(self.tables) - 1 if match is None else match
+        return match, last - max(self.numbers[low], self.numbers[high])
+
+    def make(self, variable, low, high, near=()):
+        """`near` are g and h of the Ite that asks."""
         if low == high:
             return low
         table = self.join(variable, low, high)
-        if table not in self.numbers:
+        match, compared = self.search(table, low, high)
+        (self.searched_near if table in near else self.searched_past).append(compared)
+        if match is None:
             self.add(table)
         return table
+
+    def searches(self):
+        """All searches, and those past g and h: a program that looks at these two first makes no other."""
+        near, past = self.searched_near, self.searched_past
+        return Searches(len(near + past), sum(near + past)), Searches(len(past), sum(past))
 
     def add(self, table):
         """A new node at the count."""
@@ -157,7 +181,7 @@ class Conditions:
             v = min(self.variable(f), self.variable(g), self.variable(h))
             low = self.ite(self.low(f, v), self.low(g, v), self.low(h, v))
             high = self.ite(self.high(f, v), self.high(g, v), self.high(h, v))
-            result = self.make(v, low, high)
+            result = self.make(v, low, high, (g, h))
             self._ite[key] = result
         return result
 

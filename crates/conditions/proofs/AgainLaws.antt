@@ -18,7 +18,8 @@ use Rattle.conditions.specs.Make.{Make}
 use Rattle.conditions.specs.Ite.{plainOf, leastOf, partOf, partsOf, Ite}
 use Rattle.conditions.specs.Meaning.{Builds}
 use Rattle.conditions.proofs.BuildLaws.{was-free}
-use Rattle.conditions.proofs.MakeLaws.{make-full, make-same, make-old, make-new, make-none, lowest-has, lowest-is}
+use Rattle.conditions.proofs.MakeLaws.{make-full, make-same, make-old, make-new, make-none}
+use Rattle.search.proofs.LowestLaws.{lowest-has, lowest-is}
 use Rattle.diagrams.proofs.PartsLaws.{Ready}
 use Rattle.conditions.proofs.IteLaws.{ready-builds, ready-later, ite-done, splits, split-var, split-low, split-high, split-make, split-all}
 

@@ -7,14 +7,13 @@ use native.Mathlib.Omega.{arith}
 use native.Mathlib.Decide.{decLt, ℕ-discrete}
 use borrow.Author.Tests.{eq-eqb, ne-eqb, lt-ltb, le-ltb}
 use Rattle.nodes.specs.Words.{varAt, lowAt, highAt, hasWords, withNode, capacityOf}
-use Rattle.nodes.specs.Search.{seek}
 use Rattle.nodes.specs.Standard.{Shape, Standard, lowest}
 use Rattle.nodes.specs.Extends.{Agree, Extends}
 use Rattle.nodes.proofs.BoolLaws.{split}
-use Rattle.nodes.proofs.SearchLaws.{seek-hit, seek-miss, seek-first, seek-skip}
 use Rattle.nodes.proofs.WordsLaws.{Has, words-has, has-words, node-has}
 use Rattle.nodes.proofs.ExtendsLaws.{extends-refl, node-extends}
-use Rattle.nodes.proofs.GrowthLaws.{inner, node-standard}
+use Rattle.nodes.proofs.GrowthLaws.{node-standard}
+use Rattle.search.proofs.LowestLaws.{has-above, lowest-has, lowest-none, lowest-is}
 use Rattle.conditions.specs.declared.Store.{Store}
 use Rattle.conditions.specs.Build.{Outcome, pure}
 use Rattle.conditions.specs.Make.{added, overflow, Make, Variable}
@@ -46,48 +45,7 @@ module _ (w : List ℕ) (s : Store) (v lo hi : ℕ) where
     unfolding Make
     make-none h r = rw (f, ne-eqb lo hi ne, ← e, le-ltb n (s .count) h, le-ltb (s .count) (capacityOf w) r)
 
--- the search
-module _ {w : List ℕ} {c v lo hi : ℕ} (g : Standard w c) (small : v < 64) where
-  -- a node with these words is no terminal and stands above both children
-  pub has-above : (n : ℕ) → n < c → Has w v lo hi n → (2 ≤ n) × (lo < n) × (hi < n)
-  has-above n h p =
-      let l : 2 ≤ n = inner g n h (omega (arith, p .var)) in
-      let o = g .shape n l h in
-      (l, omega (arith, o .below false, p .low), omega (arith, o .below true, p .high))
-
-  -- so the search may begin there
-  pub lowest-above : lo < c → hi < c → seek (hasWords w v lo hi) (max lo hi + 1) (c - (max lo hi + 1)) ≡ lowest w c v lo hi
-  unfolding lowest
-  lowest-above ll lh =
-      let z : c - 0 ≡ c = omega arith in
-      seek-skip (hasWords w v lo hi) c 0 (max lo hi + 1) (omega arith) (omega arith)
-      (λ m a b. split (hasWords w v lo hi m) (λ t. let p = has-above m (omega arith) (words-has w v lo hi m t) in absurd (omega (arith, p .1, p .2))) (λ t. t))
-      ∙ ap (seek (hasWords w v lo hi) 0) z
-
-module _ (w : List ℕ) (c v lo hi : ℕ) where
-  pub lowest-has : lowest w c v lo hi < c → Has w v lo hi (lowest w c v lo hi)
-  unfolding lowest
-  lowest-has h = words-has w v lo hi (lowest w c v lo hi) (seek-hit (hasWords w v lo hi) c 0 (omega arith) .1)
-
-  pub lowest-none : c ≤ lowest w c v lo hi → (n : ℕ) → n < c → hasWords w v lo hi n ≡ false
-  unfolding lowest
-  lowest-none h n l = seek-miss (hasWords w v lo hi) c 0 (omega arith) n (omega arith) (omega arith)
-
--- a node that has these words is the lowest
-pub lowest-is : {w : List ℕ} {c v lo hi : ℕ} → Standard w c → v < 64 → (n : ℕ) → n < c → Has w v lo hi n → lowest w c v lo hi ≡ n
-unfolding lowest
-lowest-is {w} {c} {v} {lo} {hi} g small n h p =
-    seek-first (hasWords w v lo hi) c 0 n (omega arith) (omega arith) (has-words w v lo hi n p)
-    (λ m a b. split (hasWords w v lo hi m)
-    (λ t.
-    let q = words-has w v lo hi m t in
-    let lm = has-above g small m (omega arith) q .0 in
-    let ln = has-above g small n h p .0 in
-    let z : m ≡ n = g .once m n lm (omega arith) ln h (q .var ∙ sym (p .var)) (q .low ∙ sym (p .low)) (q .high ∙ sym (p .high)) in
-    absurd (omega arith))
-    (λ t. t))
-
--- so Make answers it
+-- Make answers a node that has the words
 pub make-has : {w : List ℕ} (s : Store) {v : ℕ} (lo hi : ℕ) → Standard w (s .count) → v < 64 → s .full ≡ false → (n : ℕ) → n < s .count → hasWords w v lo hi n ≡ true → Make v lo hi w s ≡ pure n w s
 make-has {w} s {v} lo hi g small f n h t =
     let p = words-has w v lo hi n t in

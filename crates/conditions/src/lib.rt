@@ -1,7 +1,7 @@
 // Conditions: reduced ordered decision diagrams over lent node words, and the operations that build them.
 ghost use mathlib.Core.Path.{_≡_};
-ghost use Prim.Native.Nat.{_<_, max};
-ghost use Rattle.nodes.specs.Standard.{Standard, lowest};
+ghost use Prim.Native.Nat.{_<_};
+ghost use Rattle.nodes.specs.Standard.{Standard};
 ghost use Rattle.conditions.specs.Build.{outcome};
 ghost use Rattle.conditions.specs.Make.{Make, Variable};
 ghost use Rattle.conditions.specs.Ite.{plainOf, Ite, Not, And, Or};
@@ -15,6 +15,7 @@ pub use meets::together;
 pub use nodes::clear;
 pub use nodes::is_standard;
 pub use nodes::store_terminals;
+use search::Found;
 pub use show::put_condition;
 
 // How many nodes there are, and whether a node was needed past the capacity. Once full, nothing is built any more.
@@ -38,28 +39,6 @@ pub enum Plain {
 // The computed table: remembered answers of Ite, one to a number.
 pub type Table = [u64; 32768];
 
-// The greater of two numbers.
-fn greater(a: u32, b: u32) -> u32
-    ensures { λ r. ⌜ r ≡ max a b ⌝ }
-{
-    if a < b { b } else { a }
-}
-
-// The lowest node with these three words, or the count. Such a node stands above both children, so the search begins there.
-fn find(words: &[u32], count: u32, v: u32, lo: u32, hi: u32) -> u32
-    requires { ⌜ Standard (now words) count × (v < 64) × (lo < count) × (hi < count) ⌝ }
-    ensures { λ r. ⌜ r ≡ lowest (now (words .entry)) count v lo hi ⌝ }
-{
-    let mut i = greater(lo, hi) + 1;
-    while i < count {
-        if nodes::has_words(words, v, lo, hi, i) {
-            return i;
-        }
-        i += 1;
-    }
-    count
-}
-
 // The node with these three words: the one child if both are the same, else the lowest such node, else a new one.
 fn make(words: &mut [u32], s: Store, v: u32, lo: u32, hi: u32) -> Built
     requires { ⌜ Standard (now words) (s .count) × (v < 64) × (lo < s .count) × (hi < s .count) ⌝ }
@@ -72,23 +51,26 @@ fn make(words: &mut [u32], s: Store, v: u32, lo: u32, hi: u32) -> Built
     if lo == hi {
         return Built { store: s, node: lo };
     }
-    let at = find(words, count, v, lo, hi);
-    if at < count {
-        return Built { store: s, node: at };
-    }
-    if count < nodes::capacity(words.len()) {
-        nodes::store_node(words, count, v, lo, hi);
-        Built {
-            store: Store {
-                count: count + 1,
-                full: false,
-            },
-            node: count,
-        }
-    } else {
-        Built {
-            store: Store { count, full: true },
-            node: 0,
+    let r = searching::search(words, count, v, lo, hi);
+    let found = r.found;
+    match found {
+        Found::At(n) => Built { store: s, node: n },
+        Found::Nowhere => {
+            if count < nodes::capacity(words.len()) {
+                nodes::store_node(words, count, v, lo, hi);
+                Built {
+                    store: Store {
+                        count: count + 1,
+                        full: false,
+                    },
+                    node: count,
+                }
+            } else {
+                Built {
+                    store: Store { count, full: true },
+                    node: 0,
+                }
+            }
         }
     }
 }

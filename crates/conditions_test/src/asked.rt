@@ -1,4 +1,6 @@
 // Questions about the nodes b, c and d of a store.
+use search::Found;
+use search::Searched;
 use stored::Item;
 use text::Text;
 ghost use Prim.Native.Nat.{_<_, _≤_};
@@ -49,6 +51,36 @@ fn long_text(words: &[u32], count: u32, node: u32)
     let t = conditions::put_condition(&mut buf, empty, words, count, node);
     stored::bytes(&buf[..29]);
     tell(t);
+}
+
+// Whether a search found a node, which, and how many nodes it compared.
+fn tell_search(r: Searched) {
+    let found = r.found;
+    match found {
+        Found::At(n) => {
+            stored::word(1);
+            stored::word(n);
+        }
+        Found::Nowhere => {
+            stored::word(0);
+            stored::word(0);
+        }
+    }
+    stored::word(r.compared);
+    stored::bytes(b"\n");
+}
+
+// The search for the node with the words a, b and c, if b and c are nodes.
+pub fn look(x: Item, words: &[u32], count: u32)
+    requires { ⌜ Standard (now words) count ⌝ }
+{
+    if x.b < count {
+        if x.c < count {
+            tell_search(searching::search(words, count, x.a, x.b, x.c));
+            return;
+        }
+    }
+    stored::bytes(b" 2 0 0\n");
 }
 
 // 25: the text in e bytes, up to 20; 26: in 65,536.

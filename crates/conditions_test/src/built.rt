@@ -46,11 +46,15 @@ fn act(x: Item, words: &mut [u32], table: &mut Table, s: Store) -> Store
     s
 }
 
-// The same, if the variable and the nodes are some.
+// The same, if the variable and the nodes are some. 27 is a search, for any words.
 fn step(x: Item, words: &mut [u32], table: &mut Table, s: Store) -> Store
     requires { ⌜ Sound (now words) (now table) s ⌝ }
     ensures { λ r. ⌜ Sound (now (words .exit)) (now (table .exit)) r ⌝ }
 {
+    if x.kind == 27 {
+        asked::look(x, words, s.count);
+        return s;
+    }
     if x.a < 64 {
         if x.b < s.count {
             if x.c < s.count {
