@@ -2,15 +2,13 @@
 use mathlib.Core.Path.{_≡_, refl, sym, ap, _∙_}
 use mathlib.Core.Bool.{Bool, true, false, cond, true≢false}
 use mathlib.Core.List.{List}
-use Prim.Native.Nat.{ℕ, zero, suc, _+_, _*_, _-_, _<_, _≤_, max}
+use Prim.Native.Nat.{ℕ, suc, _+_, _<_, _≤_}
 use native.Mathlib.Omega.{arith}
 use native.Mathlib.Decide.{decLt, ℕ-discrete}
 use borrow.Author.Tests.{eq-eqb, ne-eqb, lt-ltb, le-ltb}
-use Rattle.nodes.specs.Words.{varAt, lowAt, highAt, hasWords, withNode, capacityOf}
-use Rattle.nodes.specs.Standard.{Shape, Standard, lowest}
-use Rattle.nodes.specs.Extends.{Agree, Extends}
-use Rattle.nodes.proofs.BoolLaws.{split}
-use Rattle.nodes.proofs.WordsLaws.{Has, words-has, has-words, node-has}
+use Rattle.nodes.specs.Words.{hasWords, withNode, capacityOf}
+use Rattle.nodes.specs.Standard.{Standard, lowest}
+use Rattle.nodes.proofs.WordsLaws.{Has, words-has, node-has}
 use Rattle.nodes.proofs.ExtendsLaws.{extends-refl, node-extends}
 use Rattle.nodes.proofs.GrowthLaws.{node-standard}
 use Rattle.search.proofs.LowestLaws.{has-above, lowest-has, lowest-none, lowest-is}

@@ -1,22 +1,20 @@
 -- "The lowest node with those words": where it can stand, that it is the only one, and that the search finds it.
-use mathlib.Core.Path.{_≡_, refl, sym, _∙_}
-use mathlib.Core.Bool.{Bool, true, false, true≢false}
+use mathlib.Core.Path.{_≡_, sym, _∙_}
+use mathlib.Core.Bool.{true, false, true≢false}
 use mathlib.Core.List.{List}
 use Prim.Native.Nat.{ℕ, _+_, _<_, _≤_, max}
 use native.Mathlib.Omega.{arith}
 use native.Mathlib.Decide.{decLt}
 use borrow.Author.Tests.{lt-ltb, le-ltb}
 use Rattle.nodes.specs.Words.{hasWords}
-use Rattle.nodes.specs.Standard.{Shape, Standard, lowest}
+use Rattle.nodes.specs.Standard.{Standard, lowest}
 use Rattle.nodes.proofs.BoolLaws.{split}
 use Rattle.nodes.proofs.SearchLaws.{seek-hit, seek-miss, seek-first}
 use Rattle.nodes.proofs.WordsLaws.{Has, words-has, has-words}
 use Rattle.nodes.proofs.GrowthLaws.{inner}
-use Rattle.search.specs.declared.Found.{Found}
 use Rattle.search.specs.declared.Found.the-variants.{At, Nowhere}
-use Rattle.search.specs.declared.Searched.{Searched}
 use Rattle.search.specs.Search.{Search}
-use Rattle.search.specs.Told.{Ends, Told, foundBelow}
+use Rattle.search.specs.Told.{Ends, foundBelow}
 use Rattle.search.proofs.SearchLaws.{ends-once, search-told}
 
 module _ (w : List ℕ) (c v lo hi : ℕ) where

@@ -1,14 +1,14 @@
 -- Nodes that are passed over have other children, so they are no match.
-use mathlib.Core.Path.{_≡_, refl, sym, ap, _∙_}
-use mathlib.Core.Bool.{Bool, true, false, _||_, true≢false, or-true}
+use mathlib.Core.Path.{_≡_, refl, sym, _∙_}
+use mathlib.Core.Bool.{true, false, true≢false, or-true}
 use mathlib.Core.List.{List}
 use Prim.Native.Nat.{ℕ, zero, suc, _+_, _*_, _-_, _<_, _≤_}
 use native.Mathlib.Omega.{arith}
 use native.Mathlib.Decide.{decLt}
 use borrow.Author.Tests.{eq-eqb}
-use Rattle.nodes.specs.Words.{lowAt, highAt, hasWords}
+use Rattle.nodes.specs.Words.{hasWords}
 use Rattle.nodes.proofs.BoolLaws.{split}
-use Rattle.nodes.proofs.WordsLaws.{Has, words-has}
+use Rattle.nodes.proofs.WordsLaws.{words-has}
 use Rattle.searching.specs.Children.{pairOf, childrenAt, oneOfFour, Passed}
 
 module _ (w : List ℕ) (x : ℕ) where

@@ -1,15 +1,14 @@
 -- How far a search came, and what it then tells.
-use mathlib.Core.Path.{_≡_, refl}
-use mathlib.Core.Bool.{Bool, true, false}
+use mathlib.Core.Path.{_≡_}
+use mathlib.Core.Bool.{true, false}
 use mathlib.Core.List.{List}
-use Prim.Native.Nat.{ℕ, _+_, _*_, _-_, _<_, _≤_, max}
+use Prim.Native.Nat.{ℕ, _+_, _-_, _<_, _≤_, max}
 use native.Mathlib.Omega.{arith}
 use native.Mathlib.Decide.{decLt, ℕ-discrete}
 use Rattle.nodes.specs.Words.{hasWords}
 use Rattle.search.specs.declared.Found.the-variants.{At, Nowhere}
-use Rattle.search.specs.declared.Searched.{Searched}
 use Rattle.search.specs.Search.{Search}
-use Rattle.search.specs.Told.{Ends, lastOf, Told}
+use Rattle.search.specs.Told.{Ends, lastOf}
 use Rattle.search.proofs.SearchLaws.{told-is}
 use Rattle.searching.specs.Children.{pairOf, Passed}
 use Rattle.searching.proofs.ChildrenLaws.{children-differ}
