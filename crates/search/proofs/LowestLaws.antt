@@ -1,6 +1,6 @@
 -- "The lowest node with those words": where it can stand, that it is the only one, and that the search finds it.
 use mathlib.Core.Path.{_≡_, sym, _∙_}
-use mathlib.Core.Bool.{true, false, true≢false}
+use mathlib.Core.Bool.{true, false}
 use mathlib.Core.List.{List}
 use Prim.Native.Nat.{ℕ, _+_, _<_, _≤_, max}
 use native.Mathlib.Omega.{arith}
@@ -51,6 +51,32 @@ module _ {w : List ℕ} {c v lo hi : ℕ} (g : Standard w c) (small : v < 64) wh
   unfolding lowest
   lowest-is n h p = seek-first (hasWords w v lo hi) c 0 n (omega arith) (omega arith) (has-words w v lo hi n p) (λ m a b. none-before n h p m b)
 
+-- a number as what a search found
+below-at : (c l : ℕ) {n : ℕ} → foundBelow c l ≡ At n → (n ≡ l) × (n < c)
+unfolding foundBelow
+below-at c l {n} e = dec (decLt l c)
+  where
+    dec : Dec (l < c) → (n ≡ l) × (n < c)
+    dec (yes h) =
+        let z : At l ≡ At n = rw (lt-ltb l c h) at e in
+        let y : n ≡ l = cc in
+        (y, omega arith)
+    dec (no h) =
+        let z : Nowhere ≡ At n = rw (le-ltb l c (omega arith)) at e in
+        let y : _≡_ {A = ℕ} 0 1 = cc in
+        absurd (omega arith)
+
+below-nowhere : (c l : ℕ) → foundBelow c l ≡ Nowhere → c ≤ l
+unfolding foundBelow
+below-nowhere c l e = dec (decLt l c)
+  where
+    dec : Dec (l < c) → c ≤ l
+    dec (yes h) =
+        let z : At l ≡ Nowhere = rw (lt-ltb l c h) at e in
+        let y : _≡_ {A = ℕ} 0 1 = cc in
+        absurd (omega arith)
+    dec (no h) = omega arith
+
 -- the search, in standard form
 module _ {w : List ℕ} {c v : ℕ} (lo hi : ℕ) (g : Standard w c) (small : v < 64) where
   lowest-ends : Dec (lowest w c v lo hi < c) → Ends (hasWords w v lo hi) (max lo hi + 1) c (foundBelow c (lowest w c v lo hi))
@@ -68,22 +94,7 @@ module _ {w : List ℕ} {c v : ℕ} (lo hi : ℕ) (g : Standard w c) (small : v 
 
   -- so a node that it found is the lowest, and where it found none there is none
   pub found-at : {n : ℕ} → Search w c v lo hi .found ≡ At n → (n ≡ lowest w c v lo hi) × (n < c)
-  unfolding Ends
-  found-at {n} e =
-      let h : Ends (hasWords w v lo hi) (max lo hi + 1) c (At n) = rw e at (search-told w c v lo hi .ends) in
-      (sym (lowest-is g small n (h .1) (words-has w v lo hi n (h .2))), h .1)
+  found-at e = below-at c (lowest w c v lo hi) (sym search-lowest ∙ e)
 
   pub found-nowhere : Search w c v lo hi .found ≡ Nowhere → c ≤ lowest w c v lo hi
-  unfolding Ends
-  found-nowhere e = dec (decLt (lowest w c v lo hi) c)
-    where
-      none : Ends (hasWords w v lo hi) (max lo hi + 1) c Nowhere
-      none = rw e at (search-told w c v lo hi .ends)
-
-      dec : Dec (lowest w c v lo hi < c) → c ≤ lowest w c v lo hi
-      dec (yes h) =
-          let n = lowest w c v lo hi in
-          let p = lowest-has w c v lo hi h in
-          let a = has-above g small n h p in
-          absurd (true≢false (sym (has-words w v lo hi n p) ∙ none n (omega (arith, a .1, a .2)) h))
-      dec (no h) = omega arith
+  found-nowhere e = below-nowhere c (lowest w c v lo hi) (sym search-lowest ∙ e)

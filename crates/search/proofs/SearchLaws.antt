@@ -11,14 +11,10 @@ use Rattle.search.specs.declared.Found.{Found}
 use Rattle.search.specs.declared.Found.the-variants.{At, Nowhere}
 use Rattle.search.specs.declared.Searched.{Searched}
 use Rattle.search.specs.Search.{compareFrom, Search}
-use Rattle.search.specs.Told.{Ends, lastOf, Told}
+use Rattle.search.specs.Told.{NoMatch, Ends, lastOf, Told}
 
 module _ (p : ℕ → Bool) where
-  -- no match among the nodes from i up to c
-  abbrev None : ℕ → ℕ → Type 0
-  None i c = (m : ℕ) → i ≤ m → m < c → p m ≡ false
-
-  none-more : (i c : ℕ) → p i ≡ false → None (suc i) c → None i c
+  none-more : (i c : ℕ) → p i ≡ false → NoMatch p (suc i) c → NoMatch p i c
   none-more i c e h m a b = dec (ℕ-discrete i m)
     where
       dec : Dec (i ≡ m) → p m ≡ false

@@ -9,10 +9,14 @@ use Rattle.search.specs.declared.Found.{Found}
 use Rattle.search.specs.declared.Found.the-variants.{At, Nowhere}
 use Rattle.search.specs.declared.Searched.{Searched}
 
--- at the first match among the nodes from i up to c, or nowhere, since none of them is one
+-- none of the nodes from i up to c is a match
+abbrev pub NoMatch : (ℕ → Bool) → ℕ → ℕ → Type 0
+NoMatch match i c = (m : ℕ) → i ≤ m → m < c → match m ≡ false
+
+-- at the first match among the nodes from i up to c, or nowhere, since there is none
 unfoldable pub Ends : (ℕ → Bool) → ℕ → ℕ → Found → Type 0
-Ends match i c (At n) = (i ≤ n) × (n < c) × (match n ≡ true) × ((m : ℕ) → i ≤ m → m < n → match m ≡ false)
-Ends match i c Nowhere = (m : ℕ) → i ≤ m → m < c → match m ≡ false
+Ends match i c (At n) = (i ≤ n) × (n < c) × (match n ≡ true) × NoMatch match i n
+Ends match i c Nowhere = NoMatch match i c
 
 -- "the match's number, or with none the count less one"
 unfoldable pub lastOf : ℕ → Found → ℕ

@@ -8,7 +8,7 @@ use native.Mathlib.Decide.{decLt, ℕ-discrete}
 use Rattle.nodes.specs.Words.{hasWords}
 use Rattle.search.specs.declared.Found.the-variants.{At, Nowhere}
 use Rattle.search.specs.Search.{Search}
-use Rattle.search.specs.Told.{Ends, lastOf}
+use Rattle.search.specs.Told.{NoMatch, Ends, lastOf}
 use Rattle.search.proofs.SearchLaws.{told-is}
 use Rattle.searching.specs.Children.{pairOf, Passed}
 use Rattle.searching.proofs.ChildrenLaws.{children-differ}
@@ -17,7 +17,7 @@ use Rattle.searching.proofs.ChildrenLaws.{children-differ}
 pub record Came (w : List ℕ) (c v low high i : ℕ) : Type 0 where
   pub above : max low high < i
   pub most : i ≤ c
-  pub none : (m : ℕ) → max low high + 1 ≤ m → m < i → hasWords w v low high m ≡ false
+  pub none : NoMatch (hasWords w v low high) (max low high + 1) i
 
 pub came-begins : (w : List ℕ) (c v low high : ℕ) {i : ℕ} → i ≡ max low high + 1 → i ≤ c → Came w c v low high i
 came-begins w c v low high e h = record { above = omega arith; most = h; none = λ m a b. absurd (omega arith) }
