@@ -26,7 +26,7 @@ The input has items of eight numbers of four bytes, low byte first, on a buffer 
 
 What must be printed is found with tools/tables.py, but for the parity of 56 variables, which has too
 many for tables: there it is derived (class Parity), and the derivation is held to tables for fewer.
-The node search goes over the words, one node after the other (wrongsearches.py).
+The node search goes over the words, one node after the other (nodesearch.py).
 """
 
 import sys
@@ -35,7 +35,7 @@ from rooms import ROOT
 from callscript import LENGTH, WORD, main, runs
 from calls import halves, tables_of, value
 from tables import Conditions, Refused, is_standard, node_capacity
-from wrongsearches import node_search
+from nodesearch import node_search
 
 TERMINALS = [64, 0, 0, 64, 1, 1]
 END = 10

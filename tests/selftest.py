@@ -40,7 +40,7 @@ from casefile import CaseFile, NotACaseFile, ONE, X, ZERO, parse
 from randomcases import Random
 from reference import Event, memcase, printed, run_case
 from tables import TERMINALS, Conditions, TooManyVariables
-from wrongsearches import node_search
+from nodesearch import node_search
 
 
 @functools.lru_cache

@@ -1,28 +1,12 @@
-"""The node search, one node after the other, for the operations of `conditions_test` and the self test; and for
-the self test wrong searches, and wrong sums of searches.
+"""For the self test: wrong searches, and wrong sums of searches.
 
-A search gives the match, None where there is none, and how many nodes it compared.  A wrong one is given the
-right one first, then the nodes of a store, three words each, and the three words that are searched for.  Wrong
-sums come of a Make that is given the right one first, then what that one is given.
+A wrong search is given the right one first (nodesearch.py), then what that one is given.  Wrong sums come of a
+Make that is given the right one first, then what that one is given.
 """
 
+from nodesearch import first_from
 import rooms  # noqa: F401
 from tables import Refused
-
-
-def first_from(nodes, start, words, parts=slice(3)):
-    """The first node from `start` up that has these words, or these parts of them; one for each node compared."""
-    compared = 0
-    for number in range(start, len(nodes)):
-        compared += 1
-        if nodes[number][parts] == words[parts]:
-            return number, compared
-    return None, compared
-
-
-def node_search(nodes, variable, low, high):
-    """Begins above the larger child and ends at the first match."""
-    return first_from(nodes, max(low, high) + 1, (variable, low, high))
 
 
 def begins_at_larger_child(_right, nodes, *words):

@@ -65,16 +65,6 @@ module _ (p : ℕ → Bool) where
       let e : suc i + k ≡ i + suc k = omega arith in
       rw (none i (omega arith) (omega arith)) (seek-none k (suc i) (λ m a b. none m (omega arith) (omega arith)) ∙ e)
 
-  -- a search may begin after numbers of which p does not hold
-  pub seek-skip : (c i j : ℕ) → i ≤ j → j ≤ c → ((m : ℕ) → i ≤ m → m < j → p m ≡ false) → seek p j (c - j) ≡ seek p i (c - i)
-  seek-skip c i j l m none = go (j - i) i l refl none
-    where
-      go : (d i : ℕ) → i ≤ j → j - i ≡ d → ((m : ℕ) → i ≤ m → m < j → p m ≡ false) → seek p j (c - j) ≡ seek p i (c - i)
-      go zero i l e none = let q : j ≡ i = omega arith in rw q
-      go (suc d) i l e none =
-          go d (i + 1) (omega arith) (omega arith) (λ m a b. none m (omega arith) b)
-          ∙ sym (seek-step c i (omega arith) ∙ (rw (none i (omega arith) (omega arith))))
-
   pub every-end : (i k : ℕ) → k ≡ 0 → every p i k ≡ true
   unfolding every
   every-end i k e = rw e

@@ -1,9 +1,10 @@
 // The node search of Make, from the larger child up. It passes over four nodes in a step, where none of them has the two children.
 ghost use mathlib.Core.Path.{_≡_};
+ghost use mathlib.Core.Bool.{true};
 ghost use Prim.Native.Nat.{_+_, _*_, _<_, _≤_, max};
 ghost use lib.ListN.{length};
 ghost use Rattle.search.specs.Search.{Search};
-ghost use Rattle.searching.specs.Children.{pairOf, childrenAt, oneOfFour, Passed};
+ghost use Rattle.searching.specs.Children.{pairOf, childrenAt, oneOf, Passed};
 use search::Found;
 use search::Searched;
 
@@ -32,7 +33,7 @@ fn children(words: &[u32], k: usize) -> u64
 // Whether one of the four nodes from this one on has these children.
 fn one_of_four(words: &[u32], x: u64, node: u32) -> bool
     requires { ⌜ node * 3 + 11 < length (now words) ⌝ }
-    ensures { λ r. ⌜ r ≡ oneOfFour (now (words .entry)) x (node * 3) ⌝ }
+    ensures { λ r. ⌜ r ≡ oneOf (now (words .entry)) x node 4 ⌝ }
 {
     let k = (node as usize) * 3;
     (children(words, k) == x)
@@ -41,10 +42,10 @@ fn one_of_four(words: &[u32], x: u64, node: u32) -> bool
         | (children(words, k + 9) == x)
 }
 
-// Passes over nodes that do not have these children, by fours.
+// Passes over nodes that do not have these children, by fours, up to four of which one has them, or to where fewer are left.
 fn pass(words: &[u32], count: u32, x: u64, from: u32) -> u32
     requires { ⌜ (count * 3 ≤ length (now words)) × (count ≤ 16384) × (from ≤ count) ⌝ }
-    ensures { λ r. ⌜ Passed (now (words .entry)) count x from r ⌝ }
+    ensures { λ r. ⌜ Passed (now (words .entry)) count x from r × (r + 3 < count → oneOf (now (words .entry)) x r 4 ≡ true) ⌝ }
 {
     let mut i = from;
     while i + 3 < count {

@@ -1,5 +1,5 @@
 use borrow.Author.Needs.{needs}
-use Rattle.searching.specs.Children.{oneOfFour}
+use Rattle.searching.proofs.ChildrenLaws.{one-of-four}
 use Rattle.searching.proofs.one_of_four.Statement.{statement}
 use Rattle.searching.proofs.one_of_four.Tie as tie
 use Rattle.searching.proofs.one_of_four.Reads as reads
@@ -31,8 +31,7 @@ children-requires-4 : tie.Need-children-requires-4
 children-requires-4 c κs = search needs
 
 returns : tie.Need-returns
-unfolding oneOfFour
-returns c = rw (c .children4 .ensures, c .before .children3 .ensures, c .before .before .children2 .ensures, c .before .before .before .children .ensures)
+returns c = rw (c .children4 .ensures, c .before .children3 .ensures, c .before .before .children2 .ensures, c .before .before .before .children .ensures) (one-of-four _ _ _)
 
 pub one-of-four-spec : {M : Type 1} → statement M
 one-of-four-spec =

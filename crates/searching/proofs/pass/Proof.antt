@@ -22,7 +22,7 @@ one-of-four-requires : tie.Need-one-of-four-requires Inv-loop μ-loop
 one-of-four-requires c κs = omega (arith, c .loop-test .taken)
 
 returns : tie.Need-returns Inv-loop μ-loop
-returns c = c .before .before .before .loop .inv
+returns c = (c .before .before .before .loop .inv, λ h. sym (c .before .one-of-four .ensures) ∙ c .if1 .taken)
 
 add-i : tie.Need-add-i Inv-loop μ-loop
 add-i c = omega (arith, c .before .before .loop-test .taken)
@@ -31,10 +31,10 @@ loop-less : tie.Need-loop-less Inv-loop μ-loop
 loop-less c = omega (arith, c .before .before .loop-test .taken)
 
 loop-again : tie.Need-loop-again Inv-loop μ-loop
-loop-again c = passed-more _ _ (c .before .before .before .loop .inv) (c .before .before .loop-test .taken) (sym (c .before .one-of-four .ensures) ∙ c .if1 .left) (omega arith)
+loop-again c = passed-more _ _ 4 (c .before .before .before .loop .inv) (sym (c .before .one-of-four .ensures) ∙ c .if1 .left) (omega arith) (omega arith)
 
 returns-2 : tie.Need-returns-2 Inv-loop μ-loop
-returns-2 c = c .before .loop .inv
+returns-2 c = (c .before .loop .inv, λ h. absurd (omega arith))
 
 pub pass-spec : {M : Type 1} → statement M
 pass-spec =

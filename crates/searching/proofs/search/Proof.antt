@@ -40,10 +40,10 @@ pass-requires : tie.Need-pass-requires Inv-loop μ-loop
 pass-requires c κs = (c .before .before .before .before .before .before .before .pre .0, c .before .before .before .before .before .before .before .pre .1, omega (arith, c .before .before .loop-test .taken))
 
 loop-less : tie.Need-loop-less Inv-loop μ-loop
-loop-less c = omega (arith, c .before .before .before .loop-test .taken, c .pass .ensures .from)
+loop-less c = omega (arith, c .before .before .before .loop-test .taken, c .pass .ensures .0 .from)
 
 loop-again : tie.Need-loop-again Inv-loop μ-loop
-loop-again c = came-further (c .before .before .before .before .loop .inv) (sym (c .before .before .has-words .ensures) ∙ c .before .if1 .left) (rw (c .before .before .before .before .before .paired .ensures) at (c .pass .ensures))
+loop-again c = came-further (c .before .before .before .before .loop .inv) (sym (c .before .before .has-words .ensures) ∙ c .before .if1 .left) (rw (c .before .before .before .before .before .paired .ensures) at (c .pass .ensures .0))
 
 sub-t15 : tie.Need-sub-t15 Inv-loop μ-loop
 sub-t15 c = omega (arith, c .before .before .before .before .before .pre .2)
