@@ -1,0 +1,3 @@
+pub mod PlainReader
+pub mod FormulaLaws
+pub mod FormulaRowLaws

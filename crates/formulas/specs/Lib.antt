@@ -1,0 +1,3 @@
+pub mod Language
+pub mod Reading
+pub mod Faults
