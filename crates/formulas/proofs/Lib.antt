@@ -1,3 +1,9 @@
+pub mod OrderLaws
+pub mod Spelling
 pub mod PlainReader
-pub mod FormulaLaws
-pub mod FormulaRowLaws
+pub mod CompleteLaws
+pub mod SoundLaws
+pub mod FaultLaws
+pub mod Placing
+pub mod LimitLaws
+pub mod FirstLaws

@@ -18,8 +18,8 @@ after (fault r) f = fault r
 -- `rec` below is a reader of parts, for what stands inside
 
 -- behind `b` and its number n: "`->` formula"
-abbrev pub arrow : (Part → List ℕ → Answer) → ℕ → List ℕ → Answer
-arrow rec n s = byte 45 s (λ x. byte 62 x (λ y. after (rec formula (spaces y)) (λ t r. read (when n t) r)) (fault x)) (fault s)
+abbrev pub arrowed : (Part → List ℕ → Answer) → ℕ → List ℕ → Answer
+arrowed rec n s = byte 45 s (λ x. byte 62 x (λ y. after (rec formula (spaces y)) (λ t r. read (when n t) r)) (fault x)) (fault s)
 
 -- behind a unit t: the end of the conjunction, or "joined by `&`"
 abbrev pub joining : (Part → List ℕ → Answer) → Tree → List ℕ → Answer
@@ -30,7 +30,7 @@ abbrev pub closing : Tree → List ℕ → Answer
 closing t s = byte 41 s (λ x. read (grouped t) (spaces x)) (fault s)
 
 abbrev pub readPart : (Part → List ℕ → Answer) → Part → List ℕ → Answer
-readPart rec formula s = byte 98 s (λ x. numbered x (λ n y. arrow rec n (spaces y)) (fault x)) (rec conjunction s)
+readPart rec formula s = byte 98 s (λ x. numbered x (λ n y. arrowed rec n (spaces y)) (fault x)) (rec conjunction s)
 readPart rec conjunction s = after (rec unit s) (joining rec)
 readPart rec unit s =
     byte 109 s (λ x. numbered x (λ n y. read (predicate n) (spaces y)) (fault x))

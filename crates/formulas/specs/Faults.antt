@@ -1,9 +1,9 @@
--- Request 5: where a fault stands.
+-- Request 5: where a text is wrong, and which row is met there. A place is told by what is left of the text from it on.
 use mathlib.Core.Path.{_≡_}
 use mathlib.Core.Bool.{false}
 use mathlib.Core.List.{List, [], _∷_, _++_}
-use Prim.Native.Nat.{ℕ, suc, _≤_}
-use Rattle.formulas.specs.Language.{Tree, Spaces, Number, Plain, Part, formula, conjunction, unit, Spelled, Text}
+use Prim.Native.Nat.{ℕ, suc}
+use Rattle.formulas.specs.Language.{Tree, digit, Spaces, Number, Part, formula, conjunction, unit, Written, Text}
 use Rattle.formulas.specs.Reading.{Limits}
 
 -- "In a written text a fault stands at the first byte with which no text of the language could go on, or at the end":
@@ -19,34 +19,53 @@ pub record FaultAt (s r : List ℕ) : Type 0 where
   pub goes : (q : List ℕ) × (t : Tree) × Text (before ++ q) t
   pub stops : Stops before r
 
--- what may be wrong at x besides the fault of the language: a number with all its digits, or an opener
-pub data Reason (l : Limits) : ℕ → List ℕ → Type 0 where
-  wrong-predicate : {s r : List ℕ} {n : ℕ} → Number s n r → Plain r → l .predicates n ≡ false → Reason l 15 (109 ∷ s)
-  wrong-node : {s r : List ℕ} {n : ℕ} → Number s n r → Plain r → l .nodes n ≡ false → Reason l 15 (98 ∷ s)
-  deep-next : {s : List ℕ} → Reason l 16 (78 ∷ s)
-  deep-open : {s : List ℕ} → Reason l 16 (40 ∷ s)
-  deep-arrow : {s : List ℕ} → Reason l 16 (45 ∷ 62 ∷ s)
+-- the tokens that may be refused where a text of the language could go on with them: a number's letters, and what opens
+pub data Token : Type 0 where
+  letter-m letter-b letter-N parenthesis arrow : Token
 
--- in a part that begins at s a token stands at x, with e "parentheses, N and arrows open around the place"
-pub data Around : Part → List ℕ → List ℕ → ℕ → Type 0 where
-  first : {p : Part} {s : List ℕ} → Around p s s 0
-  in-next : {s y x : List ℕ} {e : ℕ} → Spaces s y → Around unit y x e → Around unit (78 ∷ s) x (suc e)
-  in-group : {s y x : List ℕ} {e : ℕ} → Spaces s y → Around formula y x e → Around unit (40 ∷ s) x (suc e)
-  in-unit : {s x : List ℕ} {e : ℕ} → Around unit s x e → Around conjunction s x e
-  behind-and : {s y z x : List ℕ} {t : Tree} {e : ℕ} → Spelled unit s t (38 ∷ y) → Spaces y z → Around conjunction z x e → Around conjunction s x e
-  in-conjunction : {s x : List ℕ} {e : ℕ} → Around conjunction s x e → Around formula s x e
-  at-arrow : {s y z : List ℕ} {n : ℕ} → Number s n y → Spaces y (45 ∷ 62 ∷ z) → Around formula (98 ∷ s) (45 ∷ 62 ∷ z) 0
-  in-arrow : {s y z w x : List ℕ} {n e : ℕ} → Number s n y → Spaces y (45 ∷ 62 ∷ z) → Spaces z w → Around formula w x e → Around formula (98 ∷ s) x (suc e)
+abbrev pub bytes : Token → List ℕ
+bytes letter-m = 109 ∷ []
+bytes letter-b = 98 ∷ []
+bytes letter-N = 78 ∷ []
+bytes parenthesis = 40 ∷ []
+bytes arrow = 45 ∷ 62 ∷ []
 
--- of d that may be open, e are: all of them where one is too many, no more than them at a wrong number
-pub data Fits : ℕ → ℕ → ℕ → Type 0 where
-  fits : {e d : ℕ} → e ≤ d → Fits 15 e d
-  full : {d : ℕ} → Fits 16 d d
+-- behind the bytes w of a part a token may stand, with e "open parentheses, N and arrows around" it
+pub data Around : Part → List ℕ → Token → ℕ → Type 0 where
+  at-m : Around unit [] letter-m 0
+  at-N : Around unit [] letter-N 0
+  at-parenthesis : Around unit [] parenthesis 0
+  at-b : Around formula [] letter-b 0
+  at-arrow : {ds x : List ℕ} {n : ℕ} → Number ds n → Spaces x → Around formula (98 ∷ (ds ++ x)) arrow 0
+  in-next : {x w : List ℕ} {c : Token} {e : ℕ} → Spaces x → Around unit w c e → Around unit (78 ∷ (x ++ w)) c (suc e)
+  in-group : {x w : List ℕ} {c : Token} {e : ℕ} → Spaces x → Around formula w c e → Around unit (40 ∷ (x ++ w)) c (suc e)
+  in-arrow : {ds x y w : List ℕ} {n : ℕ} {c : Token} {e : ℕ} → Number ds n → Spaces x → Spaces y → Around formula w c e → Around formula (98 ∷ (ds ++ (x ++ (45 ∷ 62 ∷ (y ++ w))))) c (suc e)
+  in-unit : {w : List ℕ} {c : Token} {e : ℕ} → Around unit w c e → Around conjunction w c e
+  behind-and : {s x y w : List ℕ} {t : Tree} {c : Token} {e : ℕ} → Written unit s t → Spaces x → Spaces y → Around conjunction w c e → Around conjunction (s ++ (x ++ (38 ∷ (y ++ w)))) c e
+  in-conjunction : {w : List ℕ} {c : Token} {e : ℕ} → Around conjunction w c e → Around formula w c e
 
--- the place x of row k in the text s
-pub record Place (s : List ℕ) (k : ℕ) (x : List ℕ) : Type 0 where
-  pub start : List ℕ
-  pub after-spaces : Spaces s start
-  pub open-there : ℕ
-  pub stands : Around formula start x open-there
-  pub allowed : Fits k open-there 32
+-- in the text s the token c stands with e open around it, and r is left behind it
+pub record Stands (s : List ℕ) (c : Token) (e : ℕ) (r : List ℕ) : Type 0 where
+  pub lead : List ℕ
+  pub before : List ℕ
+  pub spaces : Spaces lead
+  pub around : Around formula before c e
+  pub is : s ≡ lead ++ (before ++ (bytes c ++ r))
+
+-- no digit stands first: a number ends here
+pub data Plain : List ℕ → Type 0 where
+  plain-end : Plain []
+  plain : {c : ℕ} {r : List ℕ} → digit c ≡ false → Plain (c ∷ r)
+
+-- in the text s row k is met at x
+pub data Wrong (l : Limits) (s : List ℕ) : ℕ → List ℕ → Type 0 where
+  -- "15, text outside the language"
+  outside : {x : List ℕ} → FaultAt s x → Wrong l s 15 x
+  -- "a predicate past the table or 4,294,967,295"; "a wrong number's at its letter"
+  wrong-predicate : {ds r : List ℕ} {n e : ℕ} → Stands s letter-m e (ds ++ r) → Number ds n → Plain r → l .predicates n ≡ false → Wrong l s 15 (109 ∷ (ds ++ r))
+  -- "or a node that 5 would refuse"
+  wrong-node : {ds r : List ℕ} {n e : ℕ} → Stands s letter-b e (ds ++ r) → Number ds n → Plain r → l .nodes n ≡ false → Wrong l s 15 (98 ∷ (ds ++ r))
+  -- "16, more than 32 open parentheses, N and arrows around one place": "at the `(`, `N` or `->` that is one too many"
+  deep-group : {r : List ℕ} → Stands s parenthesis 32 r → Wrong l s 16 (40 ∷ r)
+  deep-next : {r : List ℕ} → Stands s letter-N 32 r → Wrong l s 16 (78 ∷ r)
+  deep-arrow : {r : List ℕ} → Stands s arrow 32 r → Wrong l s 16 (45 ∷ 62 ∷ r)

@@ -1,10 +1,8 @@
--- Request 5, 'Written formulas': the trees, the language, what a tree lists, and a reader. A text is a list of bytes.
-use mathlib.Core.Path.{_≡_}
-use mathlib.Core.Bool.{Bool, true, false, cond, _&&_}
+-- Request 5, 'Written formulas': the trees, the language, what a tree lists and in what order. A text is a list of bytes.
+use mathlib.Core.Bool.{Bool, cond, _&&_}
 use mathlib.Core.List.{List, [], _∷_, _++_}
-use Prim.Native.Nat.{ℕ, zero, suc, _+_, _*_, _-_, _≤_}
+use Prim.Native.Nat.{ℕ, zero, suc, _+_, _*_, _-_, _≤_, _<_}
 use lib.Dec.{T, eqb, leb}
-use lib.ListN.{length}
 
 -- `m` number, `N`, `&`, `b` number `->`; parentheses are kept, since they count as nesting
 pub data Tree : Type 0 where
@@ -22,50 +20,42 @@ digit d = leb 48 d && leb d 57
 abbrev pub joined : ℕ → ℕ → ℕ
 joined a d = 10 * a + (d - 48)
 
--- In the relations below s is the text from some place on, and r what is left of it after the part named.
+-- "Spaces"
+pub data Spaces : List ℕ → Type 0 where
+  none : Spaces []
+  space : {x : List ℕ} → Spaces x → Spaces (32 ∷ x)
 
--- "Spaces may stand before, between and after tokens"
-pub data Spaces : List ℕ → List ℕ → Type 0 where
-  none : {s : List ℕ} → Spaces s s
-  space : {s r : List ℕ} → Spaces s r → Spaces (32 ∷ s) r
+-- digits that, joined to the number a, make it n
+pub data Digits : ℕ → List ℕ → ℕ → Type 0 where
+  stop : {a : ℕ} → Digits a [] a
+  more : {a d n : ℕ} {ds : List ℕ} → T (digit d) → Digits (joined a d) ds n → Digits a (d ∷ ds) n
 
--- the digits that follow a number a make it the number n
-pub data Digits : ℕ → List ℕ → ℕ → List ℕ → Type 0 where
-  stop : {a : ℕ} {s : List ℕ} → Digits a s a s
-  more : {a d n : ℕ} {s r : List ℕ} → T (digit d) → Digits (joined a d) s n r → Digits a (d ∷ s) n r
-
--- "a number is decimal digits joined to its letter": one digit or more
-pub data Number : List ℕ → ℕ → List ℕ → Type 0 where
-  number : {d n : ℕ} {s r : List ℕ} → T (digit d) → Digits (joined 0 d) s n r → Number (d ∷ s) n r
-
--- no digit stands here
-pub data Plain : List ℕ → Type 0 where
-  plain-end : Plain []
-  plain : {c : ℕ} {s : List ℕ} → digit c ≡ false → Plain (c ∷ s)
+-- "a number is decimal digits": one or more; n is their value
+pub data Number : List ℕ → ℕ → Type 0 where
+  number : {d n : ℕ} {ds : List ℕ} → T (digit d) → Digits (joined 0 d) ds n → Number (d ∷ ds) n
 
 pub data Part : Type 0 where
   formula conjunction unit : Part
 
--- the language, a constructor for each clause of its sentence
-pub data Spelled : Part → List ℕ → Tree → List ℕ → Type 0 where
+-- the language, a constructor for each clause of its sentence; "spaces may stand .. between .. tokens", "a number is .. joined to its letter"
+pub data Written : Part → List ℕ → Tree → Type 0 where
   -- "A unit is `m` number"
-  is-predicate : {s x r : List ℕ} {n : ℕ} → Number s n x → Spaces x r → Spelled unit (109 ∷ s) (predicate n) r
+  is-predicate : {ds : List ℕ} {n : ℕ} → Number ds n → Written unit (109 ∷ ds) (predicate n)
   -- "or `N` unit"
-  is-next : {s x r : List ℕ} {t : Tree} → Spaces s x → Spelled unit x t r → Spelled unit (78 ∷ s) (next t) r
-  -- "a formula in parentheses is itself a unit"
-  is-grouped : {s x y r : List ℕ} {t : Tree} → Spaces s x → Spelled formula x t (41 ∷ y) → Spaces y r → Spelled unit (40 ∷ s) (grouped t) r
+  is-next : {x s : List ℕ} {t : Tree} → Spaces x → Written unit s t → Written unit (78 ∷ (x ++ s)) (next t)
   -- "units joined by `&` make a conjunction"
-  is-unit : {s r : List ℕ} {t : Tree} → Spelled unit s t r → Spelled conjunction s t r
-  is-both : {s x y r : List ℕ} {t u : Tree} → Spelled unit s t (38 ∷ x) → Spaces x y → Spelled conjunction y u r → Spelled conjunction s (both t u) r
+  is-unit : {s : List ℕ} {t : Tree} → Written unit s t → Written conjunction s t
+  is-both : {s x y u : List ℕ} {t v : Tree} → Written unit s t → Spaces x → Spaces y → Written conjunction u v → Written conjunction (s ++ (x ++ (38 ∷ (y ++ u)))) (both t v)
   -- "a formula is a conjunction"
-  is-conjunction : {s r : List ℕ} {t : Tree} → Spelled conjunction s t r → Spelled formula s t r
+  is-conjunction : {s : List ℕ} {t : Tree} → Written conjunction s t → Written formula s t
   -- "or `b` number `->` formula"
-  is-when : {s x y z r : List ℕ} {n : ℕ} {t : Tree}
-      → Number s n x → Spaces x (45 ∷ 62 ∷ y) → Spaces y z → Spelled formula z t r → Spelled formula (98 ∷ s) (when n t) r
+  is-when : {ds x y s : List ℕ} {n : ℕ} {t : Tree} → Number ds n → Spaces x → Spaces y → Written formula s t → Written formula (98 ∷ (ds ++ (x ++ (45 ∷ 62 ∷ (y ++ s))))) (when n t)
+  -- "and a formula in parentheses is itself a unit"
+  is-grouped : {x s y : List ℕ} {t : Tree} → Spaces x → Written formula s t → Spaces y → Written unit (40 ∷ (x ++ (s ++ (y ++ (41 ∷ []))))) (grouped t)
 
--- a text of the language and its tree: a formula to the end, after spaces
+-- a text of the language: a formula; "spaces may stand before .. and after tokens"
 pub data Text : List ℕ → Tree → Type 0 where
-  text : {s x : List ℕ} {t : Tree} → Spaces s x → Spelled formula x t [] → Text s t
+  text : {x s y : List ℕ} {t : Tree} → Spaces x → Written formula s t → Spaces y → Text (x ++ (s ++ y)) t
 
 -- What is listed: "step (the number of N around it), condition (And of the enclosing ones, outermost first) and predicate"
 pub record Listed : Type 0 where
@@ -81,25 +71,37 @@ listed k bs (both t u) = listed k bs t ++ listed k bs u
 listed k bs (when b t) = listed k (bs ++ (b ∷ [])) t
 listed k bs (grouped t) = listed k bs t
 
--- before the first that has no lower step
-abbrev pub placed : Listed → List Listed → List Listed
-placed e [] = e ∷ []
-placed e (x ∷ xs) = cond (leb (e .step) (x .step)) (e ∷ x ∷ xs) (x ∷ placed e xs)
+-- Elements are ordered by a step: here `step` gives it.
 
-abbrev pub byStep : List Listed → List Listed
-byStep [] = []
-byStep (e ∷ es) = placed e (byStep es)
+-- e stands before the first that has no lower step
+abbrev pub placed : {A : Type 0} → (A → ℕ) → A → List A → List A
+placed step e [] = e ∷ []
+placed step e (x ∷ xs) = cond (leb (step e) (step x)) (e ∷ x ∷ xs) (x ∷ placed step e xs)
+
+abbrev pub byStep : {A : Type 0} → (A → ℕ) → List A → List A
+byStep step [] = []
+byStep step (e ∷ es) = placed step e (byStep step es)
 
 -- "ordered by step, then text"
 abbrev pub ordered : Tree → List Listed
-ordered t = byStep (listed 0 [] t)
+ordered t = byStep (λ e. e .step) (listed 0 [] t)
 
 -- those of step k, in their order
-abbrev pub only : ℕ → List Listed → List Listed
-only k [] = []
-only k (e ∷ es) = cond (eqb (e .step) k) (e ∷ only k es) (only k es)
+abbrev pub only : {A : Type 0} → (A → ℕ) → ℕ → List A → List A
+only step k [] = []
+only step k (e ∷ es) = cond (eqb (step e) k) (e ∷ only step k es) (only step k es)
 
 -- no step is lower than the one before it, nor than n
-abbrev pub Rising : ℕ → List Listed → Type 0
-Rising n [] = Unit {0}
-Rising n (e ∷ es) = (n ≤ e .step) × Rising (e .step) es
+abbrev pub Rising : {A : Type 0} → (A → ℕ) → ℕ → List A → Type 0
+Rising step n [] = Unit {0}
+Rising step n (e ∷ es) = (n ≤ step e) × Rising step (step e) es
+
+-- every step is below n
+abbrev pub Below : {A : Type 0} → (A → ℕ) → ℕ → List A → Type 0
+Below step n [] = Unit {0}
+Below step n (e ∷ es) = (step e < n) × Below step n es
+
+-- n passes over the list: those of step i, then those of step i + 1, and on
+abbrev pub passes : {A : Type 0} → (A → ℕ) → ℕ → ℕ → List A → List A
+passes step i zero xs = []
+passes step i (suc n) xs = only step i xs ++ passes step (suc i) n xs

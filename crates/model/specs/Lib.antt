@@ -1,6 +1,7 @@
 pub mod Pairs
 pub mod Record
 pub mod Access
+pub mod Formula
 pub mod Rows
 pub mod Step
 pub mod Published
