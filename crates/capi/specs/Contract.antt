@@ -2,7 +2,7 @@
 use mathlib.Core.Bool.{cond}
 use mathlib.Core.List.{List, []}
 use Prim.Native.Nat.{ℕ}
-use Rattle.model.specs.Step.{evaluate, Call, nodeCall, Given, place, idle, filled, entered, kept, accepted, valued, node, Answer, refused, done, Result, step, answerWords, Fresh, fresh}
+use Rattle.model.specs.Step.{evaluate, Call, nodeCall, Given, place, idle, filled, entered, kept, accepted, valued, node, triples, Answer, refused, done, Result, step, answerWords, Fresh, fresh}
 use Rattle.cases.specs.Case.{Answered, accepts, refuses, caseOf}
 use Rattle.capi.specs.Words.{recordIn, wordsOf, stateIn}
 
@@ -25,6 +25,7 @@ givenOut kept v = 0
 givenOut accepted v = v
 givenOut (valued b) v = cond b 1 0
 givenOut (node n) v = n
+givenOut (triples ts) v = v
 
 -- "Where a call is refused, out-words are untouched"
 abbrev pub outOf : Answer → ℕ → ℕ

@@ -7,7 +7,7 @@ use lib.ListN.{length, getD, take, replicate}
 use Rattle.text.specs.Text.{Out, growing, appended}
 use Rattle.lines.specs.Lines.{writeLine, idleLine, readLine, assertLine, checkLine, endLine, refusedLine}
 use Rattle.model.specs.Record.{Record, part, freshPorts}
-use Rattle.model.specs.Step.{State, write, read, assert, check, evaluate, Call, access, nodeCall, Given, place, idle, filled, entered, kept, accepted, valued, node, Answer, step}
+use Rattle.model.specs.Step.{State, write, read, assert, check, evaluate, Call, access, nodeCall, Given, place, idle, filled, entered, kept, accepted, valued, node, triples, Answer, step}
 use Rattle.model.specs.Step as step
 use Rattle.reading.specs.declared.Kind.{Kind}
 use Rattle.reading.specs.declared.Kind.the-variants as kind
@@ -36,6 +36,7 @@ givenLine kept s = assertLine (s .words) false (s .rec .asserted)
 givenLine accepted s = checkLine (s .words) (s .rec .checked)
 givenLine (valued b) s = []
 givenLine (node n) s = []
+givenLine (triples ts) s = []
 
 abbrev pub lineOf : Answer → State → List ℕ
 lineOf (step.refused k) s = []

@@ -26,6 +26,8 @@ pub use Rattle.diagrams.proofs.ValueLaws.{value-0, value-1}
 -- a store becomes full at its capacity alone
 pub use Rattle.conditions.proofs.FullLaws.{standard-within, pure-fills, next-fills, each-fills, variable-fills, ite-fills, any-fills}
 pub use Rattle.conditions.proofs.LongerLaws.{value-longer}
+-- an operation done again, in the store that it left or one grown out of that: nothing is built, and the node is the same
+pub use Rattle.conditions.proofs.AgainLaws.{Later, ite-again}
 -- row 5
 pub use Rattle.conditions.proofs.UserLaws.{user-is, is-user, user-stands, stands-user, stands-turns}
 -- the table to begin with

@@ -12,7 +12,7 @@ use Rattle.conditions.specs.Value.{value}
 use Rattle.conditions.specs.Assignment.{bitAt}
 use Rattle.model.specs.Record.{listCapacity}
 use Rattle.model.specs.Rows.{spaceFor}
-use Rattle.model.specs.Step.{State, Access, write, read, assert, check, evaluate, variable, ite, Call, access, nodeCall, Given, refused, isRefused, Result, refusal, Finish, full, short, gives, closed, unlessFull, finishAccess, finishNode, finish, turnedDownBy, step, run}
+use Rattle.model.specs.Step.{State, Access, write, read, assert, check, evaluate, variable, ite, conditions, Call, access, nodeCall, Given, refused, isRefused, Result, refusal, Finish, full, short, gives, closed, unlessFull, finishAccess, finishNode, finish, turnedDownBy, step, run}
 use Rattle.model.specs.Claims.{argument, Fed, fed, under, events}
 use Rattle.model.specs.Meanings.{entryValues, addressArgument, wordArgument}
 use Rattle.model.specs.Published.{Entry, keeps}
@@ -82,6 +82,7 @@ finish-within (access (check b a d)) s q = program-within (access (check b a d))
 finish-within (nodeCall (evaluate f a)) s q = done-within (nodeCall (evaluate f a)) s _ _ (λ h. h)
 finish-within (nodeCall (variable v)) s q = program-within (nodeCall (variable v)) s _ _ (done-within (nodeCall (variable v)) s _ _ (λ h. h))
 finish-within (nodeCall (ite f g h)) s q = program-within (nodeCall (ite f g h)) s _ _ (done-within (nodeCall (ite f g h)) s _ _ (λ h. h))
+finish-within (nodeCall (conditions t)) s q = program-within (nodeCall (conditions t)) s _ _ (done-within (nodeCall (conditions t)) s _ _ (λ h. h))
 
 step-within : (c : Call) (s : State) → Within c s (step c s)
 unfolding step

@@ -13,7 +13,7 @@ use Rattle.model.specs.Published.{Entry, look, inside, keeps}
 use Rattle.model.specs.Array.{Event, writes, reads, asserts, checks, nothing}
 use Rattle.model.specs.Held.{entriesAfter}
 use Rattle.model.specs.Count.{underSome, SomeExactly, samePair, differs, addsEntry, newEntries, entryCountFrom, AddsExactly, EntryExactly, KeptExactly, CountExactly, accessesByHand, ofVariable8, CountedByHand}
-use Rattle.model.specs.Step.{State, write, read, assert, check, evaluate, variable, ite, Call, access, nodeCall, Answer, refused, entered, kept, done, isRefused, Result, Finish, closed, finishAccess, finishNode, finish, step, run}
+use Rattle.model.specs.Step.{State, write, read, assert, check, evaluate, variable, ite, conditions, Call, access, nodeCall, Answer, refused, entered, kept, done, isRefused, Result, Finish, closed, finishAccess, finishNode, finish, step, run}
 use Rattle.model.specs.Claims.{argument, event, Fed, fed}
 use Rattle.model.specs.Frames.{isWrite, isAssert, RefusalLeaves}
 use Rattle.model.specs.Meanings.{entryValues, addressArgument, wordArgument, Demand2}
@@ -158,6 +158,7 @@ finish-stays (access (check b a d)) p q s = of-program (Stays s) _ _ (λ f. refl
 finish-stays (nodeCall (evaluate f a)) p q s = refl
 finish-stays (nodeCall (variable v)) p q s = of-program (Stays s) _ _ (λ f. refl) (λ f. refl)
 finish-stays (nodeCall (ite f g h)) p q s = of-program (Stays s) _ _ (λ f. refl) (λ f. refl)
+finish-stays (nodeCall (conditions t)) p q s = of-program (Stays s) _ _ (λ f. refl) (λ f. refl)
 
 others-exact : (c : Call) (s : State) → isWrite c ≡ false → isAssert c ≡ false → isRefused (step c s .answer) ≡ false → AddsExactly c s
 others-exact c s p q n =

@@ -2,7 +2,7 @@
 use mathlib.Core.Path.{_≡_, refl, sym, ap, _∙_}
 use mathlib.Core.Logic.{_↔_}
 use mathlib.Core.Bool.{Bool, true, false, cond, _&&_, not, true≢false, false≢true}
-use mathlib.Core.List.{List}
+use mathlib.Core.List.{List, []}
 use Prim.Native.Nat.{ℕ, zero, suc, _^_, _<_}
 use native.Mathlib.Omega.{arith}
 use lib.Dec.{T, eqb}
@@ -16,10 +16,12 @@ use Rattle.conditions.specs.Value.{value}
 use Rattle.conditions.specs.Assignment.{bitAt}
 use Rattle.conditions.specs.Meaning.{Builds}
 use Rattle.conditions.proofs.Promises.{ite-builds, variable-builds}
+use Rattle.formulas.specs.Language.{Tree, listed}
 use Rattle.model.specs.Pairs.{Pair, admit}
 use Rattle.model.specs.Record.{Record}
 use Rattle.model.specs.Access.{Marks, AssertBuilt}
-use Rattle.model.specs.Step.{State, write, read, assert, check, evaluate, variable, ite, Call, access, nodeCall, place, idle, filled, entered, kept, accepted, valued, node, done, isRefused, Result, refusal, Finish, full, gives, closed, unlessFull, begin, grown, withEntry, withAssertCondition, assertFirst, entryBuilt, enter, isIdle, finishAccess, finishNode, finish, turnedDownBy, step, writeBuilt}
+use Rattle.model.specs.Formula.{Triple, Triples}
+use Rattle.model.specs.Step.{State, write, read, assert, check, evaluate, variable, ite, conditions, Call, access, nodeCall, place, idle, filled, entered, kept, accepted, valued, node, triples, done, isRefused, Result, refusal, Finish, full, gives, closed, unlessFull, begin, grown, withEntry, withAssertCondition, assertFirst, entryBuilt, enter, isIdle, finishAccess, finishNode, finish, turnedDownBy, step, writeBuilt}
 use Rattle.model.specs.Published.{answer, assertHolds, checkHolds, keeps, control}
 use Rattle.model.specs.Claims.{pairAt}
 use Rattle.model.specs.Meanings.{entryValues, addressArgument, wordArgument, Enters, Demand2, portValue}
@@ -29,7 +31,8 @@ use Rattle.model.proofs.MeansLaws.{Means, up, near-self}
 use Rattle.model.proofs.AccessLaws.{AssertBuiltMean}
 use Rattle.model.proofs.TerminalLaws.{somewhere-false, idle-off}
 use Rattle.model.proofs.FinishLaws.{of-write, of-assert}
-use Rattle.model.proofs.FactLaws.{write-facts, read-facts, check-facts, assert-facts, variable-facts, ite-facts}
+use Rattle.model.proofs.FormulaLaws.{StandListed, formula-builds, are-listed}
+use Rattle.model.proofs.FactLaws.{write-facts, read-facts, check-facts, assert-facts, variable-facts, ite-facts, formula-facts}
 use Rattle.model.proofs.StepLaws.{isLeftOut, Holds, Follows, step-follows, free-store, pair-is, assert-builds, enter-builds, PortsMean, port-is}
 use Rattle.model.proofs.EntryLaws.{held, holds-values, holds-enters, holds-stays}
 use Rattle.model.proofs.ProgramLaws.{port-halves}
@@ -211,6 +214,22 @@ module _ (a : ℕ) (small : a < 2 ^ 64) (s : State) where
       let X = ite-builds (F .standard) (F .named .0) (F .named .1) (F .named .2) in
       node-value (nodeCall (ite f g h)) (Ite f g h (s .words) (begin r)) _ refl n q (λ z. X .post .is z φ)
 
+-- the conditions of a formula, in the state that they leave
+pub conditions-stand : (s : State) (t : Tree) (ts : List Triple) → step (nodeCall (conditions t)) s .answer ≡ done (triples ts)
+    → let u = step (nodeCall (conditions t)) s .after in
+    StandListed (s .words) (listed 0 [] t) (u .words) (begin (u .rec)) ts
+unfolding finishNode closed
+conditions-stand s t ts q =
+    let n : isRefused (step (nodeCall (conditions t)) s .answer) ≡ false = ap isRefused q in
+    let A = acts (nodeCall (conditions t)) s n in
+    let F = formula-facts s t (A .0) in
+    let X = formula-builds (s .rec) (s .words) (F .standard) t (F .named) in
+    let x = Triples 0 1 t (s .words) (begin (s .rec)) in
+    let B = free s x _ _ (A .1) n in
+    let z : done (triples ts) ≡ done (triples (x .answer)) = sym q ∙ ap (λ (y : Result). y .answer) (B .1) in
+    let same : ts ≡ x .answer = cc in
+    rw (B .1, same) (free-store (λ (u : Store). StandListed (s .words) (listed 0 [] t) (x .words) u (x .answer)) (x .store) (B .0) (X .post))
+
 evaluates : (s : State) (f a : ℕ) (v : Bool) → step (nodeCall (evaluate f a)) s .answer ≡ done (valued v) → v ≡ value (s .words) (bitAt a) f
 unfolding finishAccess finishNode closed
 evaluates s f a v q =
@@ -239,6 +258,7 @@ demand2 s a small =
       evaluates = evaluates s;
       variable-node = variable-node a small s;
       ite-node = ite-node a small s;
+      conditions-listed = λ t ts q. are-listed (bitAt a) (s .words) _ _ refl (listed 0 [] t) ts (conditions-stand s t ts q);
     }
 
 -- an assert that no row refuses, and whose first program does not overflow, is not kept only where some assignment does not keep it

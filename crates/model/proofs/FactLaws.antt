@@ -19,10 +19,12 @@ use Rattle.conditions.specs.Assignment.{bitAt}
 use Rattle.conditions.specs.User.{isUser}
 use Rattle.conditions.specs.Meet.{neither, together, SomeNeither, SomeTogether, Decides}
 use Rattle.conditions.proofs.Promises.{standard-is, is-standard, user-stands, stands-user, neither-decides, together-decides}
+use Rattle.formulas.specs.Language.{Tree, predicate, next, both, when, grouped}
 use Rattle.model.specs.Record.{Record, hAt, lAt, dataWords, size, listCapacity, portAt}
-use Rattle.model.specs.Rows.{Row, firstRow, users, legalPairs, row1, row2, row3, portsRow, spaceFor, writeRows, readRows, checkRows, assertRows, evaluateRows, variableRows, iteRows}
-use Rattle.model.specs.Step.{State, write, read, assert, check, evaluate, variable, ite, Call, access, nodeCall, refusal, freshRecord, freshRows}
-use Rattle.model.specs.Table.{Fact, InRange, Names, AllName, Listed, AllHoldNodes, NoneNeither, NoneUnknown, Space, writeFacts, readFacts, checkFacts, assertFacts, evaluateFacts, variableFacts, iteFacts, facts, freshFacts, AllHold, FirstFails, Slice, MemoryFacts, WriteFacts, ReadFacts, CheckFacts, AssertFacts, NodeFacts}
+use Rattle.model.specs.Formula.{everyNode}
+use Rattle.model.specs.Rows.{Row, firstRow, users, legalPairs, row1, row2, row3, portsRow, spaceFor, writeRows, readRows, checkRows, assertRows, evaluateRows, variableRows, iteRows, formulaRows}
+use Rattle.model.specs.Step.{State, write, read, assert, check, evaluate, variable, ite, conditions, Call, access, nodeCall, refusal, freshRecord, freshRows}
+use Rattle.model.specs.Table.{Fact, InRange, Names, AllName, Listed, AllHoldNodes, NoneNeither, NoneUnknown, Space, writeFacts, readFacts, checkFacts, assertFacts, evaluateFacts, variableFacts, iteFacts, EachArrow, formulaFacts, facts, freshFacts, AllHold, FirstFails, Slice, MemoryFacts, WriteFacts, ReadFacts, CheckFacts, AssertFacts, NodeFacts}
 
 -- no row has the number 0
 abbrev pub numbered : List Row → Bool
@@ -336,6 +338,16 @@ module _ (r : Record) (w : List ℕ) where
   ite-agree : (f g h : ℕ) → Agree (iteRows r w f g h) (iteFacts r w f g h)
   ite-agree f g h = (refl, row1-tells, λ R. (refl, row2-tells, λ S. (refl, three (names f) (names g) (names h), λ F. tt)))
 
+  arrows-tell : (t : Tree) → Tells (everyNode (isUser w (r .count)) t) (EachArrow (Names r w) t)
+  arrows-tell (predicate n) = record { is = λ e. tt; so = λ x. refl }
+  arrows-tell (next t) = arrows-tell t
+  arrows-tell (both t u) = two (arrows-tell t) (arrows-tell u)
+  arrows-tell (when b t) = two (names b) (arrows-tell t)
+  arrows-tell (grouped t) = arrows-tell t
+
+  formula-agree : (t : Tree) → Agree (formulaRows r w t) (formulaFacts r w t)
+  formula-agree t = (refl, row1-tells, λ R. (refl, row2-tells, λ S. (refl, arrows-tell t, λ F. tt)))
+
 -- the refusal of a call's rows is what its facts say
 pub call-told : (c : Call) (s : State) → Told (refusal c s) (facts c s)
 call-told (access (write c a d)) s = told (writeRows (s .rec) (s .words) (s .list) c a d) _ refl (write-agree (s .rec) (s .words) (s .list) c a d)
@@ -345,6 +357,7 @@ call-told (access (check b a d)) s = told (checkRows (s .rec) (s .words) (s .lis
 call-told (nodeCall (evaluate f a)) s = told (evaluateRows (s .rec) (s .words) f) _ refl (evaluate-agree (s .rec) (s .words) f)
 call-told (nodeCall (variable v)) s = told (variableRows (s .rec) (s .words) v) _ refl (variable-agree (s .rec) (s .words) v)
 call-told (nodeCall (ite f g h)) s = told (iteRows (s .rec) (s .words) f g h) _ refl (ite-agree (s .rec) (s .words) f g h)
+call-told (nodeCall (conditions t)) s = told (formulaRows (s .rec) (s .words) t) _ refl (formula-agree (s .rec) (s .words) t)
 
 -- where no row refuses a call, its facts by name
 module _ (s : State) where
@@ -432,6 +445,12 @@ module _ (s : State) where
       let (two, rest) = rest in
       record { range = one; standard = two; named = rest .0 }
 
+  pub formula-facts : (t : Tree) → refusal (nodeCall (conditions t)) s ≡ 0 → NodeFacts s (EachArrow (Names (s .rec) (s .words)) t)
+  formula-facts t e =
+      let (one, rest) = call-told (nodeCall (conditions t)) s .none e in
+      let (two, rest) = rest in
+      record { range = one; standard = two; named = rest .0 }
+
 -- every call that no row refuses is lent a standard store
 pub call-standard : (c : Call) (s : State) → refusal c s ≡ 0 → Standard (s .words) (s .rec .count)
 call-standard (access (write c a d)) s e = write-facts s c a d e .memory .standard
@@ -441,6 +460,7 @@ call-standard (access (check b a d)) s e = check-facts s b a d e .memory .standa
 call-standard (nodeCall (evaluate f a)) s e = evaluate-facts s f a e .standard
 call-standard (nodeCall (variable v)) s e = variable-facts s v e .standard
 call-standard (nodeCall (ite f g h)) s e = ite-facts s f g h e .standard
+call-standard (nodeCall (conditions t)) s e = formula-facts s t e .standard
 
 -- Fresh
 pub fresh-told : (n w : ℕ) (ws : List ℕ) → Told (freshRows n w ws) (freshFacts n w ws)

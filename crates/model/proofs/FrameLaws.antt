@@ -17,13 +17,14 @@ use Rattle.conditions.specs.Meaning.{Meaning, Builds}
 use Rattle.conditions.proofs.Promises.{from-1, extends-refl, extends-trans, standard-is, is-standard, terminals-standard, clear-standard, clear-below, ite-builds, variable-builds, is-user}
 use Rattle.model.specs.Record.{listCapacity, heldWord, freshPorts}
 use Rattle.model.specs.Access.{Write, Read, Check}
-use Rattle.model.specs.Rows.{Row, firstRow, users, row1, writeRows, readRows, assertRows, checkRows, evaluateRows, variableRows, iteRows, portsRow}
-use Rattle.model.specs.Step.{State, withWords, write, read, assert, check, evaluate, variable, ite, Call, access, nodeCall, Given, idle, filled, entered, kept, accepted, node, refused, done, isRefused, Filling, fills, fillsNone, filling, Result, refusal, turnedDown, Finish, full, short, gives, closed, unlessFull, begin, grown, withEntry, withAssertCondition, assertFirst, finishAccess, finishNode, finish, turnedDownBy, step, run, fresh, freshRows, freshUnless, freshRecord, withHeld}
+use Rattle.model.specs.Rows.{Row, firstRow, users, row1, writeRows, readRows, assertRows, checkRows, evaluateRows, variableRows, iteRows, formulaRows, portsRow}
+use Rattle.model.specs.Step.{State, withWords, write, read, assert, check, evaluate, variable, ite, conditions, Call, access, nodeCall, Given, idle, filled, entered, kept, accepted, node, triples, refused, done, isRefused, Filling, fills, fillsNone, filling, Result, refusal, turnedDown, Finish, full, short, gives, closed, unlessFull, begin, grown, withEntry, withAssertCondition, assertFirst, finishAccess, finishNode, finish, turnedDownBy, step, run, fresh, freshRows, freshUnless, freshRecord, withHeld}
 use Rattle.model.specs.Claims.{pairs}
 use Rattle.model.specs.Frames.{clears, wordsAfter, RefusalLeaves, RefusalNumber, Extended, SuccessLeaves, Valid, StaysValid, NoRow123, FreshLeaves, FreshValid, FreshNoRow123, numbers, portsAfter, PortsLeft, PortsValid, PortsStayValid, freshState}
 use Rattle.model.proofs.MeansLaws.{Means, user-means}
 use Rattle.model.proofs.AccessLaws.{write-means}
-use Rattle.model.proofs.FactLaws.{row1-tells, names, users-tell, space-room, write-facts, read-facts, check-facts, assert-facts, variable-facts, ite-facts, fresh-told}
+use Rattle.model.proofs.FormulaLaws.{formula-builds}
+use Rattle.model.proofs.FactLaws.{row1-tells, names, users-tell, space-room, write-facts, read-facts, check-facts, assert-facts, variable-facts, ite-facts, formula-facts, fresh-told}
 use Rattle.model.proofs.FinishLaws.{of-program, of-write, of-assert}
 use Rattle.model.proofs.RowLaws.{length-pairs, names-halves}
 use Rattle.model.proofs.ProgramLaws.{read-program, check-program, assert-program}
@@ -54,6 +55,7 @@ rows-plain (access (check b a d)) s = row-number plain (checkRows (s .rec) (s .w
 rows-plain (nodeCall (evaluate f φ)) s = row-number plain (evaluateRows (s .rec) (s .words) f) refl
 rows-plain (nodeCall (variable v)) s = row-number plain (variableRows (s .rec) (s .words) v) refl
 rows-plain (nodeCall (ite f g h)) s = row-number plain (iteRows (s .rec) (s .words) f g h) refl
+rows-plain (nodeCall (conditions t)) s = row-number plain (formulaRows (s .rec) (s .words) t) refl
 
 -- and in a valid state it is 4 or more
 rows-late : (c : Call) (s : State) → Valid s → PortsValid s → (k : ℕ) → refusal c s ≡ suc k → leb 4 (suc k) ≡ true
@@ -64,6 +66,7 @@ rows-late (access (check b a d)) s H P = row-number (leb 4) (checkRows (s .rec) 
 rows-late (nodeCall (evaluate f φ)) s H P = row-number (leb 4) (evaluateRows (s .rec) (s .words) f) (rw (H .one, H .two))
 rows-late (nodeCall (variable v)) s H P = row-number (leb 4) (variableRows (s .rec) (s .words) v) (rw (H .one, H .two))
 rows-late (nodeCall (ite f g h)) s H P = row-number (leb 4) (iteRows (s .rec) (s .words) f g h) (rw (H .one, H .two))
+rows-late (nodeCall (conditions t)) s H P = row-number (leb 4) (formulaRows (s .rec) (s .words) t) (rw (H .one, H .two))
 
 -- what a refusal leaves
 abbrev left : State → ℕ → State
@@ -232,6 +235,9 @@ finish-leaves (nodeCall (variable v)) s e =
 finish-leaves (nodeCall (ite f g h)) s e =
     let F = ite-facts s f g h e in
     grown-leaves (nodeCall (ite f g h)) s (ite-builds (F .standard) (F .named .0) (F .named .1) (F .named .2)) node (λ a. refl)
+finish-leaves (nodeCall (conditions t)) s e =
+    let F = formula-facts s t e in
+    grown-leaves (nodeCall (conditions t)) s (formula-builds (s .rec) (s .words) (F .standard) t (F .named)) triples (λ a. refl)
 
 step-leaves : (c : Call) (s : State) → Leaves c s (step c s)
 unfolding step

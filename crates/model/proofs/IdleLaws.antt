@@ -5,7 +5,7 @@ use mathlib.Core.List.{List}
 use Prim.Native.Nat.{ℕ, zero, suc}
 use native.Mathlib.Omega.{arith}
 use lib.ListN.{getD}
-use Rattle.model.specs.Step.{State, write, read, assert, check, evaluate, variable, ite, Call, access, nodeCall, Given, place, idle, filled, entered, kept, accepted, valued, node, Answer, refused, done, Result, refusal, Finish, full, short, gives, closed, isIdle, finishAccess, finishNode, finish, turnedDownBy, step}
+use Rattle.model.specs.Step.{State, write, read, assert, check, evaluate, variable, ite, conditions, Call, access, nodeCall, Given, place, idle, filled, entered, kept, accepted, valued, node, triples, Answer, refused, done, Result, refusal, Finish, full, short, gives, closed, isIdle, finishAccess, finishNode, finish, turnedDownBy, step}
 use Rattle.model.specs.Frames.{isWrite, IdleLeaves}
 use Rattle.model.specs.Table.{WriteFacts, NeverOne, MayBeOne, IdleExactly}
 use Rattle.model.specs.Meanings.{KeptWhereNever}
@@ -45,6 +45,7 @@ givesIdle kept = false
 givesIdle accepted = false
 givesIdle (valued b) = false
 givesIdle (node n) = false
+givesIdle (triples ts) = false
 
 abbrev answersIdle : Answer → Bool
 answersIdle (refused k) = false
@@ -64,6 +65,7 @@ finish-idles (access (check b a d)) s = of-program (Idles (access (check b a d))
 finish-idles (nodeCall (evaluate f a)) s = λ z. absurd (false≢true z)
 finish-idles (nodeCall (variable v)) s = of-program (Idles (nodeCall (variable v)) s) _ _ (λ f. tt) (λ f z. absurd (false≢true z))
 finish-idles (nodeCall (ite f g h)) s = of-program (Idles (nodeCall (ite f g h)) s) _ _ (λ f. tt) (λ f z. absurd (false≢true z))
+finish-idles (nodeCall (conditions t)) s = of-program (Idles (nodeCall (conditions t)) s) _ _ (λ f. tt) (λ f z. absurd (false≢true z))
 
 pub idle-leaves : IdleLeaves
 unfolding IdleLeaves step closed

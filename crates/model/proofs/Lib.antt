@@ -11,6 +11,8 @@ pub mod TerminalLaws
 pub mod FactLaws
 pub mod RowLaws
 pub mod FinishLaws
+pub mod FormulaLaws
+pub mod AgainFormulaLaws
 pub mod StepLaws
 pub mod EntryLaws
 pub mod ProgramLaws

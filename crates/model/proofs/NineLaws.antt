@@ -17,13 +17,14 @@ use Rattle.conditions.proofs.Promises.{standard-within, pure-fills, next-fills,
 use Rattle.model.specs.Record.{Record, hAt, lAt, entryAt, addressOf, dataOf, heldWord}
 use Rattle.model.specs.Access.{uniqueBit, Unique, Certain, Write, narrowBit, Narrow, halfStep, EachHalf, mergeHalf, entryStep, settleHalf, Look, Read, insideHalf, Inside, Check, AssertBuilt, Assert, holdHalf}
 use Rattle.model.specs.Rows.{spaceFor}
-use Rattle.model.specs.Step.{State, write, read, assert, check, evaluate, variable, ite, Call, access, nodeCall, Given, valued, isRefused, refused, refusal, Finish, full, short, gives, closed, unlessFull, begin, grown, withEntry, withCheckCondition, assertFirst, enter, isIdle, finishWrite, finishAccess, finishNode, finish, turnedDownBy, step, withHeld}
+use Rattle.model.specs.Step.{State, write, read, assert, check, evaluate, variable, ite, conditions, Call, access, nodeCall, Given, valued, isRefused, refused, refusal, Finish, full, short, gives, closed, unlessFull, begin, grown, withEntry, withCheckCondition, assertFirst, enter, isIdle, finishWrite, finishAccess, finishNode, finish, turnedDownBy, step, withHeld}
 use Rattle.model.specs.Frames.{lateRow, NineAtCapacity}
 use Rattle.model.specs.Table.{withMore, InMore, NineExactly}
 use Rattle.model.proofs.FactLaws.{call-standard, call-told}
 use Rattle.model.proofs.FinishLaws.{of-program, of-write, of-assert}
 use Rattle.model.proofs.FrameLaws.{plain, rows-plain}
 use Rattle.model.proofs.StayLaws.{nine-full}
+use Rattle.model.proofs.FormulaLaws.{triples-fill}
 
 certain-fills : (h l : ℕ) → Fills (Certain h l)
 unfolding Certain
@@ -122,6 +123,7 @@ module _ (s : State) (S : Standard (s .words) (s .rec .count)) where
   finish-met (nodeCall (evaluate f a)) = standard-within S .most
   finish-met (nodeCall (variable v)) = alone-met (variable-fills v) _ _ (λ a w c. refl)
   finish-met (nodeCall (ite f g h)) = alone-met (ite-fills f g h) _ _ (λ a w c. refl)
+  finish-met (nodeCall (conditions t)) = alone-met (triples-fill 0 1 t) _ _ (λ a w c. refl)
 
   at-nine : (x : Finish) → Met x → lateRow x ≡ 9 → (t : Store) × (x ≡ full t) × (t .count ≡ capacity)
   at-nine (full t) m e = (t, refl, m)
@@ -238,6 +240,7 @@ module _ (k : ℕ) (s : State) where
   finish-beside (nodeCall (evaluate f a)) = ap (λ (v : Bool). gives (valued v) more) (value-longer k (s .words) (bitAt a) f)
   finish-beside (nodeCall (variable v)) = alone-beside (variable-fills v) _ (λ s n w c. grown s w c) (λ a w c. refl) (λ a w c. refl)
   finish-beside (nodeCall (ite f g h)) = alone-beside (ite-fills f g h) _ (λ s n w c. grown s w c) (λ a w c. refl) (λ a w c. refl)
+  finish-beside (nodeCall (conditions t)) = alone-beside (triples-fill 0 1 t) _ (λ s ts w c. grown s w c) (λ a w c. refl) (λ a w c. refl)
 
   -- what it answers and leaves, here and there
   record ClosedBeside (x y : Finish) : Type 0 where

@@ -10,7 +10,7 @@ use Rattle.conditions.specs.Computing.{computing}
 use Rattle.model.specs.Record.{listCapacity, appended, replaced}
 use Rattle.model.specs.Access.{uniqueBit, Unique, Certain, Write, narrowBit, Narrow, halfStep, EachHalf, mergeHalf, entryStep, settleHalf, Look, holdHalf, Read, insideHalf, Inside, Check}
 use Rattle.model.specs.Rows.{row1, row3, portsRow}
-use Rattle.model.specs.Step.{State, Call, Given, place, idle, filled, entered, kept, accepted, valued, node, Answer, refused, done, isRefused, closed, unlessFull, finishWrite, finishAccess, step, run, fresh}
+use Rattle.model.specs.Step.{State, Call, Given, place, idle, filled, entered, kept, accepted, valued, node, triples, Answer, refused, done, isRefused, closed, unlessFull, finishWrite, finishAccess, step, run, fresh}
 use Rattle.model.specs.Rulings.{Expected, reading, leaving, idling, Ruling, rulings, start, result, Taken, Gives, Says, taken, sameWords, fits, answers, ruled, allRuled}
 
 pub rulings-hold : allRuled rulings ≡ true
@@ -44,6 +44,7 @@ fits-is (leaving k) accepted c p = (refl, eqb-true c k p)
 fits-is idling accepted c p = absurd (false≢true p)
 fits-is e (valued b) c p = absurd (false≢true p)
 fits-is e (node n) c p = absurd (false≢true p)
+fits-is e (triples ts) c p = absurd (false≢true p)
 
 answers-is : (e : Expected) (x : Answer) (c : ℕ) → answers e x c ≡ true → Gives e x c
 answers-is e (refused k) c p = absurd (false≢true p)

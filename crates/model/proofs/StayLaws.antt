@@ -6,7 +6,7 @@ use native.Mathlib.Omega.{arith}
 use lib.Dec.{eqb}
 use borrow.Author.Tests.{eq-eqb}
 use Rattle.nodes.proofs.BoolLaws.{split}
-use Rattle.model.specs.Step.{State, write, read, assert, check, evaluate, variable, ite, Call, access, nodeCall, refused, isRefused, refusal, Finish, full, short, gives, closed, finishAccess, finishNode, finish, turnedDownBy, step}
+use Rattle.model.specs.Step.{State, write, read, assert, check, evaluate, variable, ite, conditions, Call, access, nodeCall, refused, isRefused, refusal, Finish, full, short, gives, closed, finishAccess, finishNode, finish, turnedDownBy, step}
 use Rattle.model.specs.Frames.{isAssert, isCheck, lateRow, RefusedByRow, RowRefuses, ConditionsStay}
 use Rattle.model.proofs.FinishLaws.{of-program, of-write, of-assert}
 
@@ -53,6 +53,7 @@ finish-stays (access (assert b a d)) s =
 finish-stays (nodeCall (evaluate f a)) s = record { asserted = λ e. refl; checked = λ e. refl }
 finish-stays (nodeCall (variable v)) s = of-program (FinishStays (nodeCall (variable v)) s) _ _ (λ f. tt) (λ f. record { asserted = λ e. refl; checked = λ e. refl })
 finish-stays (nodeCall (ite f g h)) s = of-program (FinishStays (nodeCall (ite f g h)) s) _ _ (λ f. tt) (λ f. record { asserted = λ e. refl; checked = λ e. refl })
+finish-stays (nodeCall (conditions t)) s = of-program (FinishStays (nodeCall (conditions t)) s) _ _ (λ f. tt) (λ f. record { asserted = λ e. refl; checked = λ e. refl })
 
 closed-stays : (c : Call) (s : State) (x : Finish) → FinishStays c s x → Stays c s (closed s x .after)
 unfolding closed

@@ -22,7 +22,8 @@ use Rattle.conditions.proofs.Promises.{clear-keep, stands-value, value-1}
 use Rattle.model.specs.Pairs.{Pair, admit, at}
 use Rattle.model.specs.Record.{Record, withCount, withEntries, withAsserted, withChecked, entryAt, appended, listCapacity, heldWord, replaced}
 use Rattle.model.specs.Access.{Marks, Write, Read, AssertBuilt, Check}
-use Rattle.model.specs.Step.{State, write, read, assert, check, NodeCall, evaluate, variable, ite, Call, access, nodeCall, Given, place, idle, filled, entered, kept, accepted, valued, node, Answer, refused, done, Result, refusal, turnedDown, cleared, Finish, full, closed, unlessFull, begin, grown, withEntry, withHeld, withAssertCondition, assertFirst, entryBuilt, finishAccess, finishNode, finish, turnedDownBy, step}
+use Rattle.model.specs.Formula.{Triples}
+use Rattle.model.specs.Step.{State, write, read, assert, check, NodeCall, evaluate, variable, ite, conditions, Call, access, nodeCall, Given, place, idle, filled, entered, kept, accepted, valued, node, triples, Answer, refused, done, Result, refusal, turnedDown, cleared, Finish, full, closed, unlessFull, begin, grown, withEntry, withHeld, withAssertCondition, assertFirst, entryBuilt, finishAccess, finishNode, finish, turnedDownBy, step}
 use Rattle.model.specs.Published.{Entry, entry, answer, checkHolds, assertHolds, control, keeps}
 use Rattle.model.specs.Array.{Event, writes, reads, asserts, checks, nothing}
 use Rattle.model.specs.Held.{Held, heldAfter, NowMay, Accepted}
@@ -36,8 +37,9 @@ use Rattle.model.proofs.AccessLaws.{Halves, EntryMeans, noEntry, Entrie
 use Rattle.model.proofs.PortLaws.{held-at, replaced-length, replaced-in, replaced-other, half-at}
 use Rattle.model.proofs.ListLaws.{new-address, new-data, entry-old, entry-new}
 use Rattle.model.proofs.TerminalLaws.{idle-off}
+use Rattle.model.proofs.FormulaLaws.{formula-builds}
 use Rattle.model.proofs.FinishLaws.{of-program, of-write, of-assert}
-use Rattle.model.proofs.FactLaws.{space-room, write-facts, read-facts, check-facts, assert-facts, variable-facts, ite-facts}
+use Rattle.model.proofs.FactLaws.{space-room, write-facts, read-facts, check-facts, assert-facts, variable-facts, ite-facts, formula-facts}
 use Rattle.model.proofs.RowLaws.{length-pairs, name-means, names-halves, pair-legal, pairs-legal, pairs-unique}
 
 -- the list leaves out an idle write, and an assert that is kept
@@ -50,6 +52,7 @@ givesNone kept = true
 givesNone accepted = false
 givesNone (valued b) = false
 givesNone (node n) = false
+givesNone (triples ts) = false
 
 abbrev pub isLeftOut : Answer → Bool
 isLeftOut (refused k) = false
@@ -464,6 +467,12 @@ module _ (k : ℕ) (small : k < 2 ^ 64) (s : State) (h : Held) (H : Holds (bitAt
       let X = ite-means S (name-means σ (s .rec) (s .words) S (F .named .0)) (name-means σ (s .rec) (s .words) S (F .named .1)) (name-means σ (s .rec) (s .words) S (F .named .2)) in
       nine-follows σ s h H (nodeCall (ite f g j)) S (Ite f g j (s .words) (begin (s .rec))) _
       (λ q. record { same-n = refl; same-w = refl; accepted = tt; left-out = λ z. absurd (false≢true z); holds = grown-holds σ s h H (nodeCall (ite f g j)) S X q; long = λ n. n; ports = λ n P. grown-ports σ s h H (nodeCall (ite f g j)) S X q P; bits = λ P i l b. (λ z. z, λ z. z) })
+  node-follows (conditions t) e =
+      let F = formula-facts s t e in
+      let S = F .standard in
+      let X = formula-builds (s .rec) (s .words) S t (F .named) in
+      nine-follows σ s h H (nodeCall (conditions t)) S (Triples 0 1 t (s .words) (begin (s .rec))) _
+      (λ q. record { same-n = refl; same-w = refl; accepted = tt; left-out = λ z. absurd (false≢true z); holds = grown-holds σ s h H (nodeCall (conditions t)) S X q; long = λ n. n; ports = λ n P. grown-ports σ s h H (nodeCall (conditions t)) S X q P; bits = λ P i l b. (λ z. z, λ z. z) })
 
   finish-follows : (c : Call) → refusal c s ≡ 0 → Follows σ s h c (closed s (finish c s))
   finish-follows (access (write c a d)) e = write-follows c a d e

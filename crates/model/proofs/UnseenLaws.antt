@@ -7,7 +7,7 @@ use lib.Dec.{eqb}
 use Rattle.nodes.proofs.BoolLaws.{split}
 use Rattle.conditions.specs.Build.{Outcome}
 use Rattle.model.specs.Rows.{spaceFor}
-use Rattle.model.specs.Step.{State, withPorts, write, read, assert, check, evaluate, variable, ite, Call, access, nodeCall, Result, refusal, Finish, full, short, gives, closed, unlessFull, assertFirst, enter, isIdle, finishWrite, finishAccess, finishNode, finish, turnedDownBy, step, Answer}
+use Rattle.model.specs.Step.{State, withPorts, write, read, assert, check, evaluate, variable, ite, conditions, Call, access, nodeCall, Result, refusal, Finish, full, short, gives, closed, unlessFull, assertFirst, enter, isIdle, finishWrite, finishAccess, finishNode, finish, turnedDownBy, step, Answer}
 use Rattle.model.specs.Frames.{isRead, PortsUnseen}
 use Rattle.model.specs.Chain.{Answered}
 
@@ -45,6 +45,7 @@ finish-unseen (access (assert b a d)) s ps e =
 finish-unseen (nodeCall (evaluate f a)) s ps e = refl
 finish-unseen (nodeCall (variable v)) s ps e = full-unseen ps _ _ _ refl
 finish-unseen (nodeCall (ite f g h)) s ps e = full-unseen ps _ _ _ refl
+finish-unseen (nodeCall (conditions t)) s ps e = full-unseen ps _ _ _ refl
 
 refusal-unseen : (c : Call) (s : State) (ps : List ℕ) → isRead c ≡ false → refusal c (withPorts s ps) ≡ refusal c s
 refusal-unseen (access (write c a d)) s ps e = refl
@@ -54,6 +55,7 @@ refusal-unseen (access (assert b a d)) s ps e = refl
 refusal-unseen (nodeCall (evaluate f a)) s ps e = refl
 refusal-unseen (nodeCall (variable v)) s ps e = refl
 refusal-unseen (nodeCall (ite f g h)) s ps e = refl
+refusal-unseen (nodeCall (conditions t)) s ps e = refl
 
 turned-unseen : (k : ℕ) (s : State) (ps : List ℕ) (x : Result) → turnedDownBy k (withPorts s ps) (resulted ps x) ≡ resulted ps (turnedDownBy k s x)
 turned-unseen zero s ps x = refl

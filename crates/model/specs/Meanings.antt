@@ -7,10 +7,12 @@ use lib.Dec.{eqb}
 use lib.ListN.{length, getD}
 use Rattle.conditions.specs.Value.{value}
 use Rattle.conditions.specs.Assignment.{bitAt}
+use Rattle.formulas.specs.Language.{Tree, Listed, listed}
 use Rattle.model.specs.Pairs.{Pair}
 use Rattle.model.specs.Record.{Record, entryAt, addressOf, dataOf, heldWord}
+use Rattle.model.specs.Formula.{Triple}
 use Rattle.model.specs.Published.{Entry, entry, answer, assertHolds, checkHolds, keeps, control}
-use Rattle.model.specs.Step.{State, write, read, assert, check, access, evaluate, variable, ite, nodeCall, place, idle, filled, entered, kept, accepted, valued, node, done, Result, isRefused, step}
+use Rattle.model.specs.Step.{State, write, read, assert, check, access, evaluate, variable, ite, conditions, nodeCall, place, idle, filled, entered, kept, accepted, valued, node, triples, done, Result, isRefused, step}
 use Rattle.model.specs.Claims.{pairAt, pairs}
 
 -- entry j of the list, under an assignment
@@ -47,6 +49,24 @@ portValue φ s p i = pairAt φ (s .words) (heldWord (s .rec) (s .ports) p) i
 abbrev pub Enters : (ℕ → Bool) → State → State → Pair → List ℕ → List ℕ → Type 0
 Enters φ s t c a d = entryValues φ t ≡ entryValues φ s ++ (entry c (addressArgument φ s a) (wordArgument φ s d) ∷ [])
 
+-- 02: "condition (And of the enclosing ones ..)": these nodes all hold
+abbrev pub allHold : (ℕ → Bool) → List ℕ → List ℕ → Bool
+allHold φ w [] = true
+allHold φ w (b ∷ bs) = value w φ b && allHold φ w bs
+
+-- a triple is what is listed: the same step and predicate, and a condition that holds, in the words after, where the enclosing nodes held, in the words before
+pub record IsListed (φ : ℕ → Bool) (w w′ : List ℕ) (t : Triple) (l : Listed) : Type 0 where
+  pub same-step : t .step ≡ l .step
+  pub condition : value w′ φ (t .condition) ≡ allHold φ w (l .nodes)
+  pub same-named : t .named ≡ l .named
+
+-- one after the other
+abbrev pub AreListed : (ℕ → Bool) → List ℕ → List ℕ → List Triple → List Listed → Type 0
+AreListed φ w w′ [] [] = Unit {0}
+AreListed φ w w′ [] (l ∷ ls) = ⊥
+AreListed φ w w′ (t ∷ ts) [] = ⊥
+AreListed φ w w′ (t ∷ ts) (l ∷ ls) = IsListed φ w w′ t l × AreListed φ w w′ ts ls
+
 -- of any state s, under one assignment, each answer and what it leaves
 pub record Meant (φ : ℕ → Bool) (s : State) : Type 0 where
   pub write-enters : (c a d : List ℕ) (k : ℕ) → step (access (write c a d)) s .answer ≡ done (place k) → (k ≡ s .rec .entries) × Enters φ s (step (access (write c a d)) s .after) (pairAt φ (s .words) c 0) a d
@@ -70,6 +90,7 @@ pub record Meant (φ : ℕ → Bool) (s : State) : Type 0 where
   pub variable-node : (v n : ℕ) → step (nodeCall (variable v)) s .answer ≡ done (node n) → value (step (nodeCall (variable v)) s .after .words) φ n ≡ φ v
   pub ite-node : (f g h n : ℕ) → step (nodeCall (ite f g h)) s .answer ≡ done (node n)
       → value (step (nodeCall (ite f g h)) s .after .words) φ n ≡ cond (value (s .words) φ f) (value (s .words) φ g) (value (s .words) φ h)
+  pub conditions-listed : (t : Tree) (ts : List Triple) → step (nodeCall (conditions t)) s .answer ≡ done (triples ts) → AreListed φ (s .words) (step (nodeCall (conditions t)) s .after .words) ts (listed 0 [] t)
 
 -- of every state, under every 64-bit assignment
 unfoldable pub Demand2 : Type 0

@@ -8,6 +8,8 @@ use Rattle.nodes.specs.Search.{every}
 use Rattle.conditions.specs.Stores.{isStandard}
 use Rattle.conditions.specs.User.{isUser}
 use Rattle.conditions.specs.Meet.{neither, together}
+use Rattle.formulas.specs.Language.{Tree}
+use Rattle.model.specs.Formula.{everyNode}
 use Rattle.model.specs.Record.{Record, hAt, lAt, addressWords, cellWords, dataWords, size, listCapacity, portAt}
 
 -- a row's number, and its test
@@ -101,3 +103,7 @@ module _ (r : Record) (w : List ℕ) where
 
   abbrev pub iteRows : ℕ → ℕ → ℕ → List Row
   iteRows f g h = (1, row1) ∷ (2, row2) ∷ (5, isUser w (r .count) f && isUser w (r .count) g && isUser w (r .count) h) ∷ []
+
+  -- a formula's conditions are built of nodes that 5 accepts
+  abbrev pub formulaRows : Tree → List Row
+  formulaRows t = (1, row1) ∷ (2, row2) ∷ (5, everyNode (isUser w (r .count)) t) ∷ []

@@ -5,7 +5,7 @@ use mathlib.Core.List.{List, [], _∷_, _++_}
 use Prim.Native.Nat.{ℕ}
 use lib.Dec.{eqb}
 use lib.ListN.{replicate}
-use Rattle.model.specs.Step.{State, write, read, check, Call, access, Given, place, idle, filled, entered, kept, accepted, valued, node, Answer, refused, done, isRefused, Result, step, run, freshRecord, fresh}
+use Rattle.model.specs.Step.{State, write, read, check, Call, access, Given, place, idle, filled, entered, kept, accepted, valued, node, triples, Answer, refused, done, isRefused, Result, step, run, freshRecord, fresh}
 
 -- the pairs of the rulings, h before l, of node 1 (true) and node 0 (false)
 abbrev pub one : List ℕ
@@ -126,6 +126,7 @@ fits (leaving k) accepted c = eqb c k
 fits idling accepted c = false
 fits e (valued b) c = false
 fits e (node n) c = false
+fits e (triples ts) c = false
 
 abbrev pub answers : Expected → Answer → ℕ → Bool
 answers e (refused k) c = false

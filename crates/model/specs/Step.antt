@@ -12,8 +12,10 @@ use Rattle.conditions.specs.Ite.{Ite}
 use Rattle.conditions.specs.Value.{value}
 use Rattle.conditions.specs.Assignment.{bitAt}
 use Rattle.model.specs.Record.{Record, withCount, withEntries, withAsserted, withChecked, appended, heldWord, replaced, freshPorts}
+use Rattle.formulas.specs.Language.{Tree}
+use Rattle.model.specs.Formula.{Triple, Triples}
 use Rattle.model.specs.Access.{Marks, Write, Read, AssertBuilt, Assert, Check}
-use Rattle.model.specs.Rows.{firstRow, row1, spaceFor, writeRows, readRows, assertRows, checkRows, evaluateRows, variableRows, iteRows}
+use Rattle.model.specs.Rows.{firstRow, row1, spaceFor, writeRows, readRows, assertRows, checkRows, evaluateRows, variableRows, iteRows, formulaRows}
 
 -- "Record, node words and list go from call to call as the last one left them"; "the ports go from call to call as the list does"
 pub record State : Type 0 where
@@ -42,18 +44,19 @@ pub data Access : Type 0 where
   assert : ℕ → List ℕ → List ℕ → Access
   check : ℕ → List ℕ → List ℕ → Access
 
--- a call at which the plain array does nothing: "the node calls (evaluate, variable, Ite)"
+-- a call at which the plain array does nothing: "the node calls (evaluate, variable, Ite)", and the conditions of a formula, which are built together
 pub data NodeCall : Type 0 where
   evaluate : ℕ → ℕ → NodeCall
   variable : ℕ → NodeCall
   ite : ℕ → ℕ → ℕ → NodeCall
+  conditions : Tree → NodeCall
 
 pub data Call : Type 0 where
   access : Access → Call
   nodeCall : NodeCall → Call
 
 -- "A write answers its entry's place, counted from 0", or by 02 idle; "a read fills 2w lent words; an assert answers entered or kept; a check answers accepted."
--- Evaluate answers a value, variable and Ite a node
+-- Evaluate answers a value, variable and Ite a node, the conditions of a formula its triples
 pub data Given : Type 0 where
   place : ℕ → Given
   idle : Given
@@ -63,6 +66,7 @@ pub data Given : Type 0 where
   accepted : Given
   valued : Bool → Given
   node : ℕ → Given
+  triples : List Triple → Given
 
 -- a call gives what it was asked for, or is refused and "returns its number"
 pub data Answer : Type 0 where
@@ -87,6 +91,19 @@ fillingOf kept = fillsNone
 fillingOf accepted = fillsNone
 fillingOf (valued b) = fillsNone
 fillingOf (node n) = fillsNone
+fillingOf (triples ts) = fillsNone
+
+-- the triples that were answered
+abbrev pub triplesOf : Given → List Triple
+triplesOf (place k) = []
+triplesOf idle = []
+triplesOf (filled r) = []
+triplesOf entered = []
+triplesOf kept = []
+triplesOf accepted = []
+triplesOf (valued b) = []
+triplesOf (node n) = []
+triplesOf (triples ts) = ts
 
 abbrev pub filling : Answer → Filling
 filling (refused k) = fillsNone
@@ -115,6 +132,7 @@ abbrev pub nodeRefusal : NodeCall → State → ℕ
 nodeRefusal (evaluate f φ) s = firstRow (evaluateRows (s .rec) (s .words) f)
 nodeRefusal (variable v) s = firstRow (variableRows (s .rec) (s .words) v)
 nodeRefusal (ite f g h) s = firstRow (iteRows (s .rec) (s .words) f g h)
+nodeRefusal (conditions t) s = firstRow (formulaRows (s .rec) (s .words) t)
 
 abbrev pub refusal : Call → State → ℕ
 refusal (access c) s = accessRefusal c s
@@ -219,6 +237,7 @@ unfoldable pub finishNode : NodeCall → State → Finish
 finishNode (evaluate f φ) s = gives (valued (value (s .words) (bitAt φ) f)) s
 finishNode (variable v) s = unlessFull (Variable v (s .words) (begin (s .rec))) (λ n w k. gives (node n) (grown s w k))
 finishNode (ite f g h) s = unlessFull (Ite f g h (s .words) (begin (s .rec))) (λ n w k. gives (node n) (grown s w k))
+finishNode (conditions t) s = unlessFull (Triples 0 1 t (s .words) (begin (s .rec))) (λ ts w k. gives (triples ts) (grown s w k))
 
 abbrev pub finish : Call → State → Finish
 finish (access c) s = finishAccess c s

@@ -32,7 +32,7 @@ starts-is text at c h = go (eqb (getD text at 0) c) refl ∙ ap (starts c) (sym 
 pub starts-past : (text : List ℕ) (at c : ℕ) → length text ≤ at → false ≡ starts c (drop at text)
 starts-past text at c h = ap (starts c) (sym (drop-of-length-le text h))
 
-head-is : (c : ℕ) (s : List ℕ) → starts c s ≡ true → s ≡ c ∷ drop 1 s
+pub head-is : (c : ℕ) (s : List ℕ) → starts c s ≡ true → s ≡ c ∷ drop 1 s
 head-is c [] e = absurd (true≢false (sym e))
 head-is c (x ∷ s) e = go (eqb x c) refl e
   where
@@ -40,7 +40,7 @@ head-is c (x ∷ s) e = go (eqb x c) refl e
     go true q e = ap (λ (y : ℕ). y ∷ s) (eqb→eq x c (subst T (sym q) tt))
     go false q e = absurd (true≢false (sym e))
 
-byte-here : {A : Type 0} (c : ℕ) (s : List ℕ) (f : List ℕ → A) (a : A) → starts c s ≡ true → byte c s f a ≡ f (drop 1 s)
+pub byte-here : {A : Type 0} (c : ℕ) (s : List ℕ) (f : List ℕ → A) (a : A) → starts c s ≡ true → byte c s f a ≡ f (drop 1 s)
 byte-here c [] f a e = absurd (true≢false (sym e))
 byte-here c (x ∷ s) f a e = go (eqb x c) refl e
   where
@@ -48,7 +48,7 @@ byte-here c (x ∷ s) f a e = go (eqb x c) refl e
     go true q e = refl
     go false q e = absurd (true≢false (sym e))
 
-byte-not : {A : Type 0} (c : ℕ) (s : List ℕ) (f : List ℕ → A) (a : A) → starts c s ≡ false → byte c s f a ≡ a
+pub byte-not : {A : Type 0} (c : ℕ) (s : List ℕ) (f : List ℕ → A) (a : A) → starts c s ≡ false → byte c s f a ≡ a
 byte-not c [] f a e = refl
 byte-not c (x ∷ s) f a e = go (eqb x c) refl e
   where
