@@ -10,7 +10,7 @@ use Rattle.formulas.specs.Language.{Tree, digit, Part, formula, conjunct
 use Rattle.formulas.specs.Reading.{spaces, byte, digits, numbered}
 use Rattle.formulas.specs.Faults.{Plain, plain-end, plain}
 use Rattle.formulas.proofs.Spelling.{SpacesThen, then-none, then-space, DigitsThen, then-stop, then-more, NumberThen, then-number, Spelled, spelled-predicate, spelled-next, spelled-grouped, spelled-unit, spelled-both, spelled-conjunction, spelled-when, SpelledText, spelled-text, text-is-spelled}
-use Rattle.formulas.proofs.PlainReader.{Answer, read, fault, reader, readText}
+use Rattle.formulas.proofs.PlainReader.{Answer, read, fault, after, ended, reader, readText}
 
 -- What follows a part in a text: the end, `)`, or behind a unit `&`
 pub data After : Part → List ℕ → Type 0 where
@@ -157,14 +157,17 @@ spaces-length (c ∷ s) = go (eqb c 32) (spaces-length s)
     go true h = omega arith
     go false h = omega arith
 
-spelled-text-read : (s : List ℕ) (t : Tree) → SpelledText s t → readText s ≡ read t []
+pub formula-read : (s : List ℕ) (t : Tree) → Text s t → reader (3 * length s + 3) formula (spaces s) ≡ read t []
 unfolding rank
-spelled-text-read s t (spelled-text {x} m h) =
-    rw (skip formula s x t [] m h, complete formula x t [] h at-end (3 * length s + 3) (omega (arith, spaces-shorter s x m))) refl
+formula-read s t h = go (text-is-spelled s t h)
+  where
+    go : SpelledText s t → reader (3 * length s + 3) formula (spaces s) ≡ read t []
+    go (spelled-text {x} m h) =
+        rw (skip formula s x t [] m h, complete formula x t [] h at-end (3 * length s + 3) (omega (arith, spaces-shorter s x m))) refl
 
 -- "exactly this language is read": every text of it
 pub text-read : (s : List ℕ) (t : Tree) → Text s t → readText s ≡ read t []
-text-read s t h = spelled-text-read s t (text-is-spelled s t h)
+text-read s t h = ap (λ a. after a ended) (formula-read s t h)
 
 read-tree : Answer → Tree → Tree
 read-tree (read t r) u = t

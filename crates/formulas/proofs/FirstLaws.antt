@@ -1,22 +1,28 @@
 -- Request 5, "the earlier place first": wherever a token is refused, the reader stops there or before.
-use mathlib.Core.Path.{_≡_, refl, sym, ap, subst, _∙_}
+use mathlib.Core.Path.{_≡_, refl, sym, subst, _∙_}
 use mathlib.Core.Bool.{Bool, true, false, cond}
 use mathlib.Core.List.{List, [], _∷_, _++_}
 use Prim.Native.Nat.{ℕ, zero, suc, _+_, _*_, _≤_, _<_}
 use native.Mathlib.Omega.{arith}
+use lib.Dec.{T}
 use lib.ListN.{length, length-append}
-use Rattle.formulas.specs.Language.{Tree, Part, formula, conjunction, unit}
-use Rattle.formulas.specs.Reading.{spaces, byte, Limits, Verdict, wrong, follow, opened, judgeArrow, judgeJoining, judge, judgeEnded, judgeText}
+use Rattle.formulas.specs.Language.{Tree, Text, Part, formula, conjunction, unit}
+use Rattle.formulas.specs.Reading.{spaces, byte, Limits, within, Verdict, fine, wrong, follow, opened, judgeArrow, judgeJoining, judge, judgeEnded, judgeText}
 use Rattle.formulas.specs.Faults.{Token, plain, bytes, Stands}
 use Rattle.formulas.proofs.Spelling.{SpacesThen, NumberThen, spaces-then}
 use Rattle.formulas.proofs.Placing.{AroundThen, then-m, then-N, then-parenthesis, then-b, then-arrow, under-next, under-group, under-arrow, under-unit, past-and, under-conjunction, around-in, around-then}
 use Rattle.formulas.proofs.PlainReader.{read}
 use Rattle.formulas.proofs.CompleteLaws.{rank, at-and, spaces-read, spaces-plain, spaces-shorter, number-read, number-shorter, spelled-start, spelled-shorter, unit-byte, complete}
 use Rattle.formulas.proofs.SoundLaws.{rest}
-use Rattle.formulas.proofs.LimitLaws.{Refused, predicate-refused, node-refused, next-refused, group-refused, arrow-refused, Beside, agrees, earlier, beside}
+use Rattle.formulas.proofs.LimitLaws.{Refused, predicate-refused, node-refused, next-refused, group-refused, arrow-refused, Beside, agrees, earlier, beside, judge-fine}
 
 around-shorter : (p : Part) (s : List ℕ) (c : Token) (x : List ℕ) (e : ℕ) → AroundThen p s c x e → length x ≤ length s
 around-shorter p s c x e h = let a = around-in p s c x e h in rw (a .is, length-append (a .before) x) (omega arith)
+
+-- whether it is a refusal
+abbrev told : Verdict → Type 0
+told (fine t r) = ⊥
+told (wrong k x) = Unit {0}
 
 -- a refusal, no later than x
 pub data Early (x : List ℕ) : Verdict → Type 0 where
@@ -118,6 +124,23 @@ module _ (l : Limits) where
   early-at p s c x e (under-conjunction h) k d w (suc j) b =
       subst (Early x) (sym (conjunction-byte s c x e _ _ h)) (early-at conjunction s c x e h k d w j (omega arith))
 
+  early-text : (s : List ℕ) (k d : ℕ) (c : Token) (e : ℕ) (r : List ℕ) → Stands s c e r → Refused l d k c (bytes c ++ r) e → Early (bytes c ++ r) (judge l (3 * length s + 3) d formula (spaces s))
+  unfolding rank
+  early-text s k d c e r h w =
+      let x = bytes c ++ r in
+      let y = h .before ++ x in
+      let a = around-then formula (h .before) c e (h .around) r in
+      let m : SpacesThen s y = rw (h .is) (spaces-then (h .lead) (h .spaces) y) in
+      subst (λ o. Early x (judge l (3 * length s + 3) d formula o)) (sym (spaces-read s y m ∙ around-start formula y c x e a))
+      (early-at formula y c x e a k d w (3 * length s + 3) (omega (arith, spaces-shorter s y m)))
+
+  -- so nothing is refused in a text that is within the limits
+  pub within-good : (s : List ℕ) (k d : ℕ) (c : Token) (e : ℕ) (r : List ℕ) (t : Tree) → Stands s c e r → Refused l d k c (bytes c ++ r) e → Text s t → T (within l d t) → ⊥
+  within-good s k d c e r t h w g b = go (judge l (3 * length s + 3) d formula (spaces s)) (judge-fine l s d t g b) (early-text s k d c e r h w)
+    where
+      go : (v : Verdict) → v ≡ fine t [] → Early (bytes c ++ r) v → ⊥
+      go v q (early {k = i} {y} h) = subst told q tt
+
 pub record RefusedBy (l : Limits) (s x : List ℕ) : Type 0 where
   pub row : ℕ
   pub left : List ℕ
@@ -125,16 +148,8 @@ pub record RefusedBy (l : Limits) (s x : List ℕ) : Type 0 where
   pub no-later : length x ≤ length left
 
 pub judged-first : (l : Limits) (s : List ℕ) (k : ℕ) (c : Token) (e : ℕ) (r : List ℕ) → Stands s c e r → Refused l 32 k c (bytes c ++ r) e → RefusedBy l s (bytes c ++ r)
-unfolding rank
 judged-first l s k c e r h w =
-    let x = bytes c ++ r in
-    let y = h .before ++ x in
-    let a = around-then formula (h .before) c e (h .around) r in
-    let m : SpacesThen s y = rw (h .is) (spaces-then (h .lead) (h .spaces) y) in
-    early-is (judgeText l s) refl
-    (follow-early x (judge l (3 * length s + 3) 32 formula (spaces s)) judgeEnded
-    (subst (λ o. Early x (judge l (3 * length s + 3) 32 formula o)) (sym (spaces-read s y m ∙ around-start formula y c x e a))
-    (early-at l formula y c x e a k 32 w (3 * length s + 3) (omega (arith, spaces-shorter s y m)))))
+    early-is (judgeText l s) refl (follow-early (bytes c ++ r) (judge l (3 * length s + 3) 32 formula (spaces s)) judgeEnded (early-text l s k 32 c e r h w))
   where
     early-is : (v : Verdict) → judgeText l s ≡ v → Early (bytes c ++ r) v → RefusedBy l s (bytes c ++ r)
     early-is v q (early {k = i} {y} b) = record { row = i; left = y; is = q; no-later = b }

@@ -1,9 +1,14 @@
+pub mod ExampleLaws
 pub mod OrderLaws
 pub mod Spelling
+pub mod Placing
 pub mod PlainReader
 pub mod CompleteLaws
 pub mod SoundLaws
 pub mod FaultLaws
-pub mod Placing
 pub mod LimitLaws
 pub mod FirstLaws
+pub mod ReadingLaws
+pub mod DepthLaws
+pub mod PlaceLaws
+pub mod ClaimLaws

@@ -13,17 +13,17 @@ use Rattle.formulas.specs.Faults.{Token, letter-m, letter-b, letter-N, p
 use Rattle.formulas.proofs.Spelling.{SpacesThen, DigitsThen, then-stop, then-more, NumberThen, then-number, Spelled, SpacesIn, spaces-in, number-in}
 use Rattle.formulas.proofs.Placing.{AroundThen, then-m, then-N, then-parenthesis, then-b, then-arrow, under-next, under-group, under-arrow, under-unit, past-and, under-conjunction, AroundIn, around-in}
 use Rattle.formulas.proofs.PlainReader.{Answer, read, fault, after, arrowed, joining, closing, readPart, reader, ended, readText}
-use Rattle.formulas.proofs.CompleteLaws.{number-shorter, spaces-length, text-read}
+use Rattle.formulas.proofs.CompleteLaws.{number-shorter, spaces-length, formula-read}
 use Rattle.formulas.proofs.SoundLaws.{spaces-spelled, byte-is, after-is, text-spelled, rest, reader-rest, after-rest, arrow-rest, joining-rest, closing-rest, ended-rest, reader-spelled}
 use Rattle.formulas.proofs.FaultLaws.{fault-place}
 
-and-left : (a b : Bool) → T (a && b) → T a
+pub and-left : (a b : Bool) → T (a && b) → T a
 and-left true b h = tt
 
-and-right : (a b : Bool) → T (a && b) → T b
+pub and-right : (a b : Bool) → T (a && b) → T b
 and-right true b h = h
 
-and-both : (a b : Bool) → T a → T b → T (a && b)
+pub and-both : (a b : Bool) → T a → T b → T (a && b)
 and-both true b h g = g
 
 -- two readers side by side
@@ -229,18 +229,24 @@ module _ (l : Limits) where
       after-beside formula (spaces s) 32 formula (spaces s) 32 (reader (3 * length s + 3) formula (spaces s)) (judge l (3 * length s + 3) 32 formula (spaces s)) ended judgeEnded
       (beside (3 * length s + 3) 32 formula (spaces s)) (λ k j c x a u. (j, a, u)) ended-rest ended-bad (λ t r e. ended-beside (spaces s) t r)
 
-  fine-reads : (s : List ℕ) (a : Answer) (t : Tree) (r : List ℕ) → Beside formula s 32 a (fine t r) → (a ≡ read t r) × T (within l 32 t)
-  fine-reads s a t r (agrees h) = (refl, h)
+  pub fine-reads : (p : Part) (s : List ℕ) (d : ℕ) (a : Answer) (t : Tree) (r : List ℕ) → Beside p s d a (fine t r) → (a ≡ read t r) × T (within l d t)
+  fine-reads p s d a t r (agrees h) = (refl, h)
 
-  reads-fine : (s : List ℕ) (t : Tree) (r : List ℕ) (v : Verdict) → Beside formula s 32 (read t r) v → T (within l 32 t) → v ≡ fine t r
-  reads-fine s t r v (agrees h) g = refl
-  reads-fine s t r v (earlier w o b m) g = absurd (b g)
+  reads-fine : (s : List ℕ) (d : ℕ) (t : Tree) (r : List ℕ) (v : Verdict) → Beside formula s d (read t r) v → T (within l d t) → v ≡ fine t r
+  reads-fine s d t r v (agrees h) g = refl
+  reads-fine s d t r v (earlier w o b m) g = absurd (b g)
+
+  -- a text is read where as many may be open as its tree has
+  pub judge-fine : (s : List ℕ) (d : ℕ) (t : Tree) → Text s t → T (within l d t) → judge l (3 * length s + 3) d formula (spaces s) ≡ fine t []
+  judge-fine s d t h g =
+      let k = 3 * length s + 3 in
+      reads-fine (spaces s) d t [] (judge l k d formula (spaces s)) (subst (λ a. Beside formula (spaces s) d a (judge l k d formula (spaces s))) (formula-read s t h) (beside k d formula (spaces s))) g
 
 -- "But for wrong numbers and 16, exactly this language is read"
 pub judged-fine : (l : Limits) (s : List ℕ) (t : Tree) → (judgeText l s ≡ fine t []) ↔ (Text s t × T (within l 32 t))
 judged-fine l s t = (
-  λ e. let h = fine-reads l (spaces s) (readText s) t [] (subst (Beside l formula (spaces s) 32 (readText s)) e (text-beside l s)) in (text-spelled s t [] (h .0), h .1),
-  λ h. reads-fine l (spaces s) t [] (judgeText l s) (subst (λ a. Beside l formula (spaces s) 32 a (judgeText l s)) (text-read s t (h .0)) (text-beside l s)) (h .1),
+  λ e. let h = fine-reads l formula (spaces s) 32 (readText s) t [] (subst (Beside l formula (spaces s) 32 (readText s)) e (text-beside l s)) in (text-spelled s t [] (h .0), h .1),
+  λ h. ap (λ v. follow v judgeEnded) (judge-fine l s 32 t (h .0) (h .1)),
 )
 
 -- a refusal of the reader is a row that is met there

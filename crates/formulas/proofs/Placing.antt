@@ -2,7 +2,7 @@
 use mathlib.Core.Path.{_≡_, refl, sym, ap, subst, _∙_}
 use mathlib.Core.List.{List, [], _∷_, _++_, append-assoc, append-nil}
 use Prim.Native.Nat.{ℕ, suc}
-use Rattle.formulas.specs.Language.{Tree, predicate, next, both, when, grouped, Spaces, none, space, stop, Number, number, Part, formula, conjunction, unit, Written, is-predicate, is-next, is-unit, is-both, is-conjunction, is-when, is-grouped, Text, text}
+use Rattle.formulas.specs.Language.{Tree, predicate, next, both, when, grouped, none, stop, number, Part, formula, conjunction, unit, Written, is-predicate, is-next, is-unit, is-both, is-conjunction, is-when, is-grouped, Text, text}
 use Rattle.formulas.specs.Faults.{Token, letter-m, letter-b, letter-N, parenthesis, arrow, bytes, Around, at-m, at-N, at-parenthesis, at-b, at-arrow, in-next, in-group, in-arrow, in-unit, behind-and, in-conjunction, Stands}
 use Rattle.formulas.proofs.Spelling.{SpacesThen, NumberThen, Spelled, spaces-then, number-then, written-spelled, join, spaces-in, number-in, spelled-written}
 

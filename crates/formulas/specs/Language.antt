@@ -20,7 +20,7 @@ digit d = leb 48 d && leb d 57
 abbrev pub joined : ℕ → ℕ → ℕ
 joined a d = 10 * a + (d - 48)
 
--- "Spaces"
+-- nothing, or nothing but spaces
 pub data Spaces : List ℕ → Type 0 where
   none : Spaces []
   space : {x : List ℕ} → Spaces x → Spaces (32 ∷ x)
@@ -37,7 +37,7 @@ pub data Number : List ℕ → ℕ → Type 0 where
 pub data Part : Type 0 where
   formula conjunction unit : Part
 
--- the language, a constructor for each clause of its sentence; "spaces may stand .. between .. tokens", "a number is .. joined to its letter"
+-- the language, a constructor for each clause of its sentence; "Spaces may stand .. between .. tokens", "a number is decimal digits joined to its letter"
 pub data Written : Part → List ℕ → Tree → Type 0 where
   -- "A unit is `m` number"
   is-predicate : {ds : List ℕ} {n : ℕ} → Number ds n → Written unit (109 ∷ ds) (predicate n)
@@ -53,7 +53,7 @@ pub data Written : Part → List ℕ → Tree → Type 0 where
   -- "and a formula in parentheses is itself a unit"
   is-grouped : {x s y : List ℕ} {t : Tree} → Spaces x → Written formula s t → Spaces y → Written unit (40 ∷ (x ++ (s ++ (y ++ (41 ∷ []))))) (grouped t)
 
--- a text of the language: a formula; "spaces may stand before .. and after tokens"
+-- a text of the language is a formula; "Spaces may stand before .. and after tokens"
 pub data Text : List ℕ → Tree → Type 0 where
   text : {x s y : List ℕ} {t : Tree} → Spaces x → Written formula s t → Spaces y → Text (x ++ (s ++ y)) t
 
@@ -71,7 +71,7 @@ listed k bs (both t u) = listed k bs t ++ listed k bs u
 listed k bs (when b t) = listed k (bs ++ (b ∷ [])) t
 listed k bs (grouped t) = listed k bs t
 
--- Elements are ordered by a step: here `step` gives it.
+-- The order of any elements by their steps, which `step` gives.
 
 -- e stands before the first that has no lower step
 abbrev pub placed : {A : Type 0} → (A → ℕ) → A → List A → List A

@@ -1,3 +1,5 @@
 pub mod Language
 pub mod Reading
 pub mod Faults
+pub mod Claims
+pub mod Examples

@@ -37,7 +37,7 @@ module _ (k c : ℕ) (w : List ℕ) (s : Store) where
 
 module _ (w : List ℕ) (s : Store) (S : Standard w (s .count)) where
   -- And of two nodes
-  and-grows : (c b : ℕ) → c < s .count → b < s .count → Builds w s (λ w s n. n < s .count) (And c b w s)
+  pub and-grows : (c b : ℕ) → c < s .count → b < s .count → Builds w s (λ w s n. n < s .count) (And c b w s)
   and-grows c b C B =
       let X = and-builds S (stands-value w s 0 c C (omega arith)) (stands-value w s 0 b B (omega arith)) in
       record { standard = X .standard; extends = X .extends; stuck = X .stuck; post = X .post .below }
