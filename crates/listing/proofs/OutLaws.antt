@@ -38,7 +38,7 @@ pub put-full : (t : Triple) (listed : ℕ) (out : List ℕ) → length out / 3 �
 unfolding put
 put-full t listed out h = sym (ap (putIf t listed out) (le-ltb listed (length out / 3) h))
 
-putAll-append : (xs ys : List Triple) (o : Out) → putAll (xs ++ ys) o ≡ putAll ys (putAll xs o)
+pub putAll-append : (xs ys : List Triple) (o : Out) → putAll (xs ++ ys) o ≡ putAll ys (putAll xs o)
 putAll-append [] ys o = refl
 putAll-append (x ∷ xs) ys o = putAll-append xs ys (put x o)
 

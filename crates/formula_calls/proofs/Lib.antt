@@ -1,0 +1,11 @@
+pub mod AnswerLaws
+pub mod FoundLaws
+pub mod MakeLaws
+pub mod CallLaws
+pub mod LeaveLaws
+pub mod ChainLaws
+pub mod RowLaws
+pub mod StandLaws
+pub mod ListLaws
+pub mod WordLaws
+pub mod ExampleLaws

@@ -1,0 +1,117 @@
+-- 02, 'Written formulas': what is claimed of the two calls.
+use mathlib.Core.Path.{_≡_}
+use mathlib.Core.Logic.{_⊎_, _↔_}
+use mathlib.Core.Bool.{true, false}
+use mathlib.Core.List.{List, [], _∷_}
+use Prim.Native.Nat.{ℕ, zero, suc, _+_, _*_, _-_, _^_, _<_, _≤_}
+use lib.Dec.{T}
+use lib.ListN.{length, take}
+use Rattle.formulas.specs.Language.{Tree, Text, ordered}
+use Rattle.formulas.specs.Claims.{depth, numbers, First}
+use Rattle.conditions.specs.Assignment.{bitAt}
+use Rattle.model.specs.Record.{Record}
+use Rattle.model.specs.Formula.{Triple}
+use Rattle.model.specs.Step.{State, withWords, Access, conditions, Call, access, nodeCall, Answer, refused, done, isRefused, triplesOf, step, run}
+use Rattle.model.specs.Frames.{wordsAfter, clears}
+use Rattle.model.specs.Meanings.{AreListed}
+use Rattle.model.specs.Table.{Names, memoryFacts, AllHold, FirstFails, Overflows}
+use Rattle.formula_calls.specs.Call.{Making, limitsOf, inOrder, listedOver, accessesBy, FormulaAnswer, faulty, refusedBy, stopped, allMade, Found, turnsDown, reads, found, formulaStep}
+
+-- The calls that a formula stands for: none where it is refused before anything is built; else its conditions, as one node call, and its accesses in order, up to and with the first that is refused
+abbrev pub unlessRefused : Answer → List Call → List Call
+unlessRefused (refused k) cs = []
+unlessRefused (done g) cs = cs
+
+unfoldable pub tried : List Access → State → List Call
+tried [] s = []
+tried (c ∷ cs) s = access c ∷ unlessRefused (step (access c) s .answer) (tried cs (step (access c) s .after))
+
+abbrev pub triedAfter : Making → Record → List ℕ → Answer → State → List Call
+triedAfter k r table (refused j) t = []
+triedAfter k r table (done g) t = tried (accessesBy k r table (inOrder (triplesOf g))) t
+
+abbrev pub callsFound : Making → List ℕ → State → Found → List Call
+callsFound k table s (turnsDown a) = []
+callsFound k table s (reads t) = nodeCall (conditions t) ∷ triedAfter k (s .rec) table (step (nodeCall (conditions t)) s .answer) (step (nodeCall (conditions t)) s .after)
+
+unfoldable pub callsOf : Making → List ℕ → List ℕ → List ℕ → State → List Call
+callsOf k text table out s = callsFound k table s (found text table out s)
+
+-- every call of a list is accepted; the first m are, and the next, which is the last, is refused by row k
+abbrev pub AllAccepted : List Call → State → Type 0
+AllAccepted [] s = Unit {0}
+AllAccepted (c ∷ cs) s = (isRefused (step c s .answer) ≡ false) × AllAccepted cs (step c s .after)
+
+abbrev pub RefusedAfter : ℕ → ℕ → List Call → State → Type 0
+RefusedAfter m k [] s = ⊥
+RefusedAfter zero k (c ∷ cs) s = (step c s .answer ≡ refused k) × (cs ≡ [])
+RefusedAfter (suc m) k (c ∷ cs) s = (isRefused (step c s .answer) ≡ false) × RefusedAfter m k cs (step c s .after)
+
+-- what an answer says of the calls: "the first refusal, which is returned with the number made"
+abbrev pub Tells : FormulaAnswer → List Call → State → Type 0
+Tells (faulty k p) cs s = cs ≡ []
+Tells (refusedBy k) cs s = (cs ≡ []) ⊎ ((k ≡ 9) × RefusedAfter 0 9 cs s)
+Tells (stopped k n m) cs s = (m < n) × RefusedAfter (suc m) k cs s
+Tells (allMade n) cs s = (length cs ≡ suc n) × AllAccepted cs s
+
+-- a formula call leaves what the calls that it stands for leave, one after the other, and says which of them were accepted
+pub record IsCalls (k : Making) (text table out : List ℕ) (s : State) : Type 0 where
+  pub leaves : formulaStep k text table out s .after ≡ run (callsOf k text table out s) s
+  pub tells : Tells (formulaStep k text table out s .answer) (callsOf k text table out s) s
+
+unfoldable pub FormulaIsCalls : Type 0
+FormulaIsCalls = (k : Making) (text table out : List ℕ) (s : State) → IsCalls k text table out s
+
+-- What each refusal leaves. By the call itself: record, list and answer words as they were, and node words too, but for those that 9 clears. At an access: "those made stand, and the answer stays written"; what the
+-- refused access itself leaves is as of any access
+pub record RefusalLeaves (k : Making) (text table out : List ℕ) (s : State) : Type 0 where
+  pub by-text : (j p : ℕ) → formulaStep k text table out s .answer ≡ faulty j p → (formulaStep k text table out s .after ≡ s) × (formulaStep k text table out s .words ≡ out)
+  pub by-row : (j : ℕ) → formulaStep k text table out s .answer ≡ refusedBy j → (formulaStep k text table out s .after ≡ withWords s (wordsAfter (clears j) s)) × (formulaStep k text table out s .words ≡ out)
+  pub at-access : (j n m : ℕ) → formulaStep k text table out s .answer ≡ stopped j n m
+      → let t = run (take (suc m) (callsOf k text table out s)) s in formulaStep k text table out s .after ≡ withWords t (wordsAfter (clears j) t)
+
+unfoldable pub FormulaRefusalLeaves : Type 0
+FormulaRefusalLeaves = (k : Making) (text table out : List ℕ) (s : State) → RefusalLeaves k text table out s
+
+-- The rows once more, as facts. The text is read as the tree t
+pub record ReadAs (text table : List ℕ) (s : State) (t : Tree) : Type 0 where
+  pub spelled : Text text t
+  pub named : T (numbers (limitsOf s table) t)
+  pub nested : depth t ≤ 32
+
+-- the numbers that are not refused: a predicate of 2n + 2w words that the table has whole, and no number past 4,294,967,295; a node that 5 would not refuse
+pub record NumbersExactly (table : List ℕ) (s : State) : Type 0 where
+  pub predicates : (p : ℕ) → 1 ≤ s .rec .n → (limitsOf s table .predicates p ≡ true) ↔ (((p + 1) * (2 * s .rec .n + 2 * s .rec .w) ≤ length table) × (p ≤ 4294967295))
+  pub nodes : (b : ℕ) → (limitsOf s table .nodes b ≡ true) ↔ Names (s .rec) (s .words) b
+
+-- each row of the call itself is met exactly there: 1 to 3 by the memory; 15 and 16 at the first place of the text at which a row is met; 13 by an answer slice of fewer than three words for each predicate; 9 by the conditions
+pub record RowsExactly (k : Making) (text table out : List ℕ) (s : State) : Type 0 where
+  pub memory : (j : ℕ) → j ≤ 3 → (formulaStep k text table out s .answer ≡ refusedBy j) ↔ FirstFails j (memoryFacts (s .rec) (s .words) (s .list) [])
+  pub fault : (j p : ℕ) → (formulaStep k text table out s .answer ≡ faulty j p) ↔ (AllHold (memoryFacts (s .rec) (s .words) (s .list) []) × ((x : List ℕ) × First (limitsOf s table) text j x × (p + length x ≡ length text)))
+  pub short : (formulaStep k text table out s .answer ≡ refusedBy 13) ↔ (AllHold (memoryFacts (s .rec) (s .words) (s .list) []) × ((t : Tree) × ReadAs text table s t × (length out < 3 * length (ordered t))))
+  pub nine : (formulaStep k text table out s .answer ≡ refusedBy 9)
+      ↔ (AllHold (memoryFacts (s .rec) (s .words) (s .list) []) × ((t : Tree) × ReadAs text table s t × (3 * length (ordered t) ≤ length out) × Overflows (nodeCall (conditions t)) s))
+  pub no-other : (j : ℕ) → formulaStep k text table out s .answer ≡ refusedBy j → (j ≤ 3) ⊎ ((j ≡ 9) ⊎ (j ≡ 13))
+
+unfoldable pub FormulaRows : Type 0
+FormulaRows = (k : Making) (text table out : List ℕ) (s : State) → NumbersExactly table s × RowsExactly k text table out s
+
+-- "The answer lists, three words each, step .., condition (And of the enclosing ones, outermost first) and predicate, ordered by step, then text": what stands in the answer words is what the text lists, each
+-- condition under each assignment the And of the enclosing nodes, in the node words that the call left
+abbrev pub HasListed : FormulaAnswer → ℕ → Type 0
+HasListed (faulty k p) n = ⊥
+HasListed (refusedBy k) n = ⊥
+HasListed (stopped k j m) n = j ≡ n
+HasListed (allMade j) n = j ≡ n
+
+pub record ListsText (k : Making) (text table out : List ℕ) (s : State) (n : ℕ) : Type 0 where
+  pub tree : Tree
+  pub triples : List Triple
+  pub read : ReadAs text table s tree
+  pub many : n ≡ length (ordered tree)
+  pub fits : 3 * n ≤ length out
+  pub words : formulaStep k text table out s .words ≡ listedOver triples out
+  pub means : (a : ℕ) → a < 2 ^ 64 → AreListed (bitAt a) (s .words) (formulaStep k text table out s .after .words) triples (ordered tree)
+
+unfoldable pub FormulaLists : Type 0
+FormulaLists = (k : Making) (text table out : List ℕ) (s : State) (n : ℕ) → HasListed (formulaStep k text table out s .answer) n → ListsText k text table out s n

@@ -1,0 +1,4 @@
+pub mod Call
+pub mod Claims
+pub mod Chain
+pub mod Examples

@@ -1,0 +1,81 @@
+use Rattle.making.proofs.MakingLaws.{address-size, word-size, address-is, word-is}
+use borrow.Author.Needs.{needs}
+use Rattle.making.proofs.assert_by.Statement.{statement}
+use Rattle.making.proofs.assert_by.Tie as tie
+use Rattle.making.proofs.assert_by.Reads as reads
+use Rattle.making.proofs.assert_by.Lts as lts
+use Rattle.assert_access.proofs.assert_on.Reads as assert-on-reads
+use Rattle.making.proofs.named_at.Reads as named-at-reads
+
+mul-t15 : tie.Need-mul-t15
+mul-t15 c = search needs
+
+add-t16 : tie.Need-add-t16
+add-t16 c = search needs
+
+mul-t17 : tie.Need-mul-t17
+mul-t17 c = search needs
+
+shared-slice-read-t19 : tie.Need-shared-slice-read-t19
+shared-slice-read-t19 c = search needs
+
+named-at-requires : tie.Need-named-at-requires
+named-at-requires c κs = search needs
+
+mul-address : tie.Need-mul-address
+mul-address c = search needs
+
+sub-address : tie.Need-sub-address
+sub-address c = search needs
+
+part-address-start : tie.Need-part-address-start
+part-address-start c = search needs
+
+part-address-end : tie.Need-part-address-end
+part-address-end c = search needs
+
+mul-data : tie.Need-mul-data
+mul-data c = search needs
+
+sub-data : tie.Need-sub-data
+sub-data c = search needs
+
+part-data-start : tie.Need-part-data-start
+part-data-start c = search needs
+
+part-data-end : tie.Need-part-data-end
+part-data-end c = search needs
+
+assert-on-requires : tie.Need-assert-on-requires
+assert-on-requires c κs = (c .before .before .before .before .before .before .before .before .before .before .before .pre .ready .valid, c .before .before .before .before .before .before .before .before .before .before .before .pre .ready .sound, address-size (c .before .before .before .before .before .named-at .ensures), word-size (c .before .before .before .before .before .named-at .ensures))
+
+same-length : tie.Need-same-length
+same-length c = search needs
+
+same-length-2 : tie.Need-same-length-2
+same-length-2 c = search needs
+
+returns : tie.Need-returns
+returns c = rw (← address-is (c .before .before .before .before .before .before .before .before .before .before .named-at .ensures), ← word-is (c .before .before .before .before .before .before .before .before .before .before .named-at .ensures)) (c .before .before .before .before .assert-on .ensures)
+
+pub assert-by-spec : {M : Type 1} → statement M
+assert-by-spec =
+    tie.close
+    (tie.spec
+    mul-t15
+    add-t16
+    mul-t17
+    shared-slice-read-t19
+    named-at-requires
+    mul-address
+    sub-address
+    part-address-start
+    part-address-end
+    mul-data
+    sub-data
+    part-data-start
+    part-data-end
+    assert-on-requires
+    same-length
+    same-length-2
+    returns)

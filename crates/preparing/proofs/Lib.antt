@@ -1,0 +1,4 @@
+pub mod StepLaws
+pub mod PassLaws
+pub mod TripleLaws
+pub mod PrepareLaws
