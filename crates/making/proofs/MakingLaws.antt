@@ -1,6 +1,6 @@
 -- Accesses by triples, one after the other.
 use mathlib.Core.Path.{_≡_, refl, sym, ap, ap₂, subst, _∙_}
-use mathlib.Core.List.{List, _∷_}
+use mathlib.Core.List.{List, [], _∷_}
 use Prim.Native.Nat.{ℕ, zero, suc, _+_, _*_, _-_, _<_, _≤_}
 use native.Mathlib.Omega.{arith}
 use lib.ListN.{length, getD}
@@ -40,6 +40,10 @@ access-same asserting r r′ table t en ew =
     ap₂ (λ (n w : ℕ). assert (t .condition) (part table (t .named * (2 * n + 2 * w)) (t .named * (2 * n + 2 * w) + 2 * n)) (part table (t .named * (2 * n + 2 * w) + 2 * n) (t .named * (2 * n + 2 * w) + (2 * n + 2 * w)))) en ew
 access-same checking r r′ table t en ew =
     ap₂ (λ (n w : ℕ). check (t .condition) (part table (t .named * (2 * n + 2 * w)) (t .named * (2 * n + 2 * w) + 2 * n)) (part table (t .named * (2 * n + 2 * w) + 2 * n) (t .named * (2 * n + 2 * w) + (2 * n + 2 * w)))) en ew
+
+pub accesses-same : (k : Making) (r r′ : Fields) (table : List ℕ) (ts : List Triple) → r′ .n ≡ r .n → r′ .w ≡ r .w → accessesBy k (recordOf r′) table ts ≡ accessesBy k (recordOf r) table ts
+accesses-same k r r′ table [] n w = refl
+accesses-same k r r′ table (t ∷ ts) n w = ap₂ (λ (c : Access) (cs : List Access). c ∷ cs) (access-same k r r′ table t n w) (accesses-same k r r′ table ts n w)
 
 -- the accesses so far: all were made, and those ahead are made on what they left
 pub record SoFar (k : Making) (r : Fields) (w l predicates triples : List ℕ) (listed : ℕ) (r′ : Fields) (w′ l′ t′ : List ℕ) (i : ℕ) : Type 0 where
