@@ -6,6 +6,7 @@ pub mod LeaveLaws
 pub mod ChainLaws
 pub mod RowLaws
 pub mod StandLaws
-pub mod ListLaws
 pub mod WordLaws
+pub mod ListLaws
+pub mod PortLaws
 pub mod ExampleLaws

@@ -22,6 +22,7 @@ use Rattle.formula_calls.proofs.FoundLaws.{Finds, by-memory, by-fault, 
 use Rattle.formula_calls.proofs.MakeLaws.{make-leaves}
 use Rattle.formula_calls.proofs.RowLaws.{read-as, as-many}
 use Rattle.formula_calls.proofs.StandLaws.{memory-valid, run-listed}
+use Rattle.formula_calls.proofs.WordLaws.{stands-in}
 
 -- triples are what is listed in the order of the steps too
 module _ (φ : ℕ → Bool) (w w′ : List ℕ) where
@@ -76,6 +77,7 @@ module _ (k : Making) (text table out : List ℕ) (s : State) (n : ℕ) where
     many : n ≡ length (ordered tree)
     fits : 3 * n ≤ length out
     words : x .words ≡ listedOver listing out
+    lists : length listing ≡ length (ordered tree)
     means : (a : ℕ) → a < 2 ^ 64 → AreListed (bitAt a) (s .words) (x .after .words) listing (ordered tree)
 
   found-lists : (f : Found) → Finds text table out s f → HasListed (finishFormula k table out s f .answer) n → Lists (finishFormula k table out s f)
@@ -109,6 +111,7 @@ module _ (k : Making) (text table out : List ℕ) (s : State) (n : ℕ) where
             many = sym m ∙ q;
             fits = omega (arith, as-many t);
             words = refl;
+            lists = q;
             means = λ a small. subst (λ (v : State). AreListed (bitAt a) (s .words) (v .words) ts (ordered t)) (sym (make-leaves cs u)) (D a);
           }
 
@@ -116,4 +119,4 @@ pub formula-lists : FormulaLists
 unfolding FormulaLists formulaStep
 formula-lists k text table out s n h =
     let L = found-lists k text table out s n (found text table out s) (finds text table out s) h in
-    record { tree = L .tree; triples = L .listing; read = L .read; many = L .many; fits = L .fits; words = L .words; means = L .means }
+    record { tree = L .tree; triples = L .listing; read = L .read; many = L .many; fits = L .fits; words = stands-in (L .listing) out (finishFormula k table out s (found text table out s) .words) (omega (arith, L .fits, L .many, L .lists)) (L .words); means = L .means }

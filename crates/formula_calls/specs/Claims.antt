@@ -2,16 +2,16 @@
 use mathlib.Core.Path.{_≡_}
 use mathlib.Core.Logic.{_⊎_, _↔_}
 use mathlib.Core.Bool.{true, false}
-use mathlib.Core.List.{List, [], _∷_}
+use mathlib.Core.List.{List, [], _∷_, _++_}
 use Prim.Native.Nat.{ℕ, zero, suc, _+_, _*_, _-_, _^_, _<_, _≤_}
 use lib.Dec.{T}
-use lib.ListN.{length, take}
+use lib.ListN.{length, getD, take}
 use Rattle.formulas.specs.Language.{Tree, Text, ordered}
 use Rattle.formulas.specs.Claims.{depth, numbers, First}
 use Rattle.conditions.specs.Assignment.{bitAt}
 use Rattle.model.specs.Record.{Record}
 use Rattle.model.specs.Formula.{Triple}
-use Rattle.model.specs.Step.{State, withWords, Access, conditions, Call, access, nodeCall, Answer, refused, done, isRefused, triplesOf, step, run}
+use Rattle.model.specs.Step.{State, withWords, withPorts, Access, conditions, Call, access, nodeCall, Answer, refused, done, isRefused, triplesOf, step, run}
 use Rattle.model.specs.Frames.{wordsAfter, clears}
 use Rattle.model.specs.Meanings.{AreListed}
 use Rattle.model.specs.Table.{Names, memoryFacts, AllHold, FirstFails, Overflows}
@@ -96,22 +96,36 @@ pub record RowsExactly (k : Making) (text table out : List ℕ) (s : State) : Ty
 unfoldable pub FormulaRows : Type 0
 FormulaRows = (k : Making) (text table out : List ℕ) (s : State) → NumbersExactly table s × RowsExactly k text table out s
 
--- "The answer lists, three words each, step .., condition (And of the enclosing ones, outermost first) and predicate, ordered by step, then text": what stands in the answer words is what the text lists, each
--- condition under each assignment the And of the enclosing nodes, in the node words that the call left
+-- "three words each, step .., condition .. and predicate": these triples stand in the words ws, one after the other, and past them ws is as out
+pub record StandInWords (ts : List Triple) (out ws : List ℕ) : Type 0 where
+  pub long : length ws ≡ length out
+  pub at : (us vs : List Triple) (t : Triple) → ts ≡ us ++ (t ∷ vs) → (getD ws (3 * length us) 0 ≡ t .step) × (getD ws (3 * length us + 1) 0 ≡ t .condition) × (getD ws (3 * length us + 2) 0 ≡ t .named)
+  pub past : (i : ℕ) → 3 * length ts ≤ i → getD ws i 0 ≡ getD out i 0
+
+-- so many are listed
 abbrev pub HasListed : FormulaAnswer → ℕ → Type 0
 HasListed (faulty k p) n = ⊥
 HasListed (refusedBy k) n = ⊥
 HasListed (stopped k j m) n = j ≡ n
 HasListed (allMade j) n = j ≡ n
 
+-- "The answer lists, three words each, step .., condition (And of the enclosing ones, outermost first) and predicate, ordered by step, then text": what stands in the answer words is what the text lists, each
+-- condition under each assignment the And of the enclosing nodes, in the node words that the call left
 pub record ListsText (k : Making) (text table out : List ℕ) (s : State) (n : ℕ) : Type 0 where
   pub tree : Tree
   pub triples : List Triple
   pub read : ReadAs text table s tree
   pub many : n ≡ length (ordered tree)
   pub fits : 3 * n ≤ length out
-  pub words : formulaStep k text table out s .words ≡ listedOver triples out
+  pub words : StandInWords triples out (formulaStep k text table out s .words)
   pub means : (a : ℕ) → a < 2 ^ 64 → AreListed (bitAt a) (s .words) (formulaStep k text table out s .after .words) triples (ordered tree)
 
 unfoldable pub FormulaLists : Type 0
 FormulaLists = (k : Making) (text table out : List ℕ) (s : State) (n : ℕ) → HasListed (formulaStep k text table out s .answer) n → ListsText k text table out s n
+
+-- No port is lent to a formula: what it answers, and leaves of record, node words, list and answer words, turns on none, and all stay
+unfoldable pub FormulaPortsUnseen : Type 0
+FormulaPortsUnseen =
+    (k : Making) (text table out : List ℕ) (s : State) (ps : List ℕ)
+    → formulaStep k text table out (withPorts s ps)
+    ≡ record { answer = formulaStep k text table out s .answer; after = withPorts (formulaStep k text table out s .after) ps; words = formulaStep k text table out s .words }
