@@ -14,7 +14,7 @@ use Rattle.memory.specs.declared.ReadAnswer.{ReadAnswer}
 use Rattle.memory.specs.declared.ReadAnswer.the-variants as reads
 use Rattle.memory.specs.Contract.{recordOf, stateOf, numbered, readAnswer, valueAnswer, AnswersNoList, ReadAnswers}
 use Rattle.memory.specs.Contract as memory
-use Rattle.capi.specs.Words.{recordIn, wordsOf}
+use Rattle.record_words.specs.Words.{recordIn, wordsOf}
 use Rattle.capi.specs.Contract.{numberOf, outOf, left, leftBy, called, evaluatedBy, evaluated, freshed}
 
 -- a call of memory from the record m, which the words r are, to m′, of which r′ are the words; its answer x is y

@@ -12,7 +12,7 @@ use Rattle.model.proofs.FactLaws.{write-facts}
 use Rattle.model.proofs.Demand2.{acts, idle-or-entered}
 use Rattle.model.proofs.IdleLaws.{idle-exactly}
 use Rattle.model.proofs.FrameLaws.{refusal-leaves, refusal-number, fresh-leaves}
-use Rattle.capi.specs.Words.{recordIn, wordsOf, stateIn}
+use Rattle.record_words.specs.Words.{recordIn, wordsOf, stateIn}
 use Rattle.capi.specs.Contract.{numberOf, outOf, left, leftBy, called, freshBy, freshed}
 use Rattle.capi.specs.Claims.{ZeroAccepts, RefusedLeaves, IdlePlace, FreshRefused}
 

@@ -8,7 +8,7 @@ use lib.ListN.{length}
 use Rattle.model.specs.Step.{write, Call, access, isRefused, step}
 use Rattle.model.specs.Frames.{clears, wordsAfter}
 use Rattle.model.specs.Table.{NeverOne}
-use Rattle.capi.specs.Words.{stateIn}
+use Rattle.record_words.specs.Words.{stateIn}
 use Rattle.capi.specs.Contract.{idlePlace, left, called, freshed}
 
 -- "0 for accepted"

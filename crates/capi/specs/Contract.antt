@@ -4,7 +4,7 @@ use mathlib.Core.List.{List, []}
 use Prim.Native.Nat.{ℕ}
 use Rattle.model.specs.Step.{evaluate, Call, nodeCall, Given, place, idle, filled, entered, kept, accepted, valued, node, triples, Answer, refused, done, Result, step, answerWords, Fresh, fresh}
 use Rattle.cases.specs.Case.{Answered, accepts, refuses, caseOf}
-use Rattle.capi.specs.Words.{recordIn, wordsOf, stateIn}
+use Rattle.record_words.specs.Words.{recordIn, wordsOf, stateIn}
 
 -- "0 for accepted or the row's number"
 abbrev pub numberOf : Answer → ℕ

@@ -3,8 +3,8 @@ ghost use mathlib.Core.Path.{_≡_};
 ghost use mathlib.Core.List.{[]};
 ghost use Rattle.model.specs.Step.{ite, write, read, assert, check, access, nodeCall};
 ghost use Rattle.model.specs.Step as step;
-ghost use Rattle.memory.specs.Contract.{recordOf};
-ghost use Rattle.capi.specs.Words.{recordIn, wordsOf};
+ghost use Rattle.formula_calls.specs.Call.{asserting, checking};
+ghost use Rattle.formula_words.specs.Contract.{leftFormula, formulaCalled};
 ghost use Rattle.capi.specs.Contract.{left, called, evaluated, freshed, leftCase, cased};
 use access::ControlNode;
 use casefile::CaseAnswer;
@@ -13,30 +13,8 @@ use memory::CheckAnswer;
 use memory::FreshAnswer;
 use memory::NodeAnswer;
 use memory::ReadAnswer;
-use memory::Record;
 use memory::ValueAnswer;
 use memory::WriteAnswer;
-
-// The record that six words are.
-fn record_of(words: &[u32; 6]) -> Record
-    ensures { λ r. ⌜ recordOf r ≡ recordIn (now (words .entry)) ⌝ }
-{
-    Record {
-        n: words[0],
-        w: words[1],
-        count: words[2],
-        entries: words[3],
-        asserted: words[4],
-        checked: words[5],
-    }
-}
-
-// The record's six words.
-fn put_record(words: &mut [u32; 6], r: Record)
-    ensures { λ _. ⌜ now (words .exit) ≡ wordsOf (recordOf r) ⌝ }
-{
-    *words = [r.n, r.w, r.count, r.entries, r.asserted, r.checked];
-}
 
 // Fresh.
 #[no_mangle]
@@ -49,8 +27,8 @@ pub extern "C" fn md_fresh(
 ) -> u32
     ensures { λ r. ⌜ (r, now («record» .exit), now (nodes .exit), now (ports .exit)) ≡ freshed n w (now («record» .entry)) (now (nodes .entry)) (now (ports .entry)) ⌝ }
 {
-    let x = record_of(record).fresh(nodes, ports, n, w);
-    put_record(record, x.after);
+    let x = record_words::record_of(record).fresh(nodes, ports, n, w);
+    record_words::put_record(record, x.after);
     let answer = x.answer;
     match answer {
         FreshAnswer::Accepted => 0,
@@ -68,8 +46,8 @@ pub extern "C" fn md_variable(
 ) -> u32
     ensures { λ r. ⌜ left r (now («record» .exit)) (now (nodes .exit)) [] [] [] (now (node .exit)) ≡ called (nodeCall (step.variable variable)) (now («record» .entry)) (now (nodes .entry)) [] [] [] (now (node .entry)) ⌝ }
 {
-    let x = record_of(record).variable(nodes, variable);
-    put_record(record, x.after);
+    let x = record_words::record_of(record).variable(nodes, variable);
+    record_words::put_record(record, x.after);
     let answer = x.answer;
     match answer {
         NodeAnswer::Node(k) => {
@@ -92,8 +70,8 @@ pub extern "C" fn md_ite(
 ) -> u32
     ensures { λ r. ⌜ left r (now («record» .exit)) (now (nodes .exit)) [] [] [] (now (node .exit)) ≡ called (nodeCall (ite f g h)) (now («record» .entry)) (now (nodes .entry)) [] [] [] (now (node .entry)) ⌝ }
 {
-    let x = record_of(record).ite(nodes, f, g, h);
-    put_record(record, x.after);
+    let x = record_words::record_of(record).ite(nodes, f, g, h);
+    record_words::put_record(record, x.after);
     let answer = x.answer;
     match answer {
         NodeAnswer::Node(k) => {
@@ -115,7 +93,7 @@ pub extern "C" fn md_evaluate(
 ) -> u32
     ensures { λ r. ⌜ (r, now (value .exit)) ≡ evaluated node assignment (now («record» .entry)) (now (nodes .entry)) (now (value .entry)) ⌝ }
 {
-    let x = record_of(record).evaluate(nodes, node, assignment);
+    let x = record_words::record_of(record).evaluate(nodes, node, assignment);
     let answer = x.answer;
     match answer {
         ValueAnswer::Value(b) => {
@@ -139,8 +117,8 @@ pub extern "C" fn md_write(
 ) -> u32
     ensures { λ r. ⌜ left r (now («record» .exit)) (now (nodes .exit)) (now (list .exit)) [] [] (now (place .exit)) ≡ called (access (write (now (enable .entry)) (now (address .entry)) (now («data» .entry)))) (now («record» .entry)) (now (nodes .entry)) (now (list .entry)) [] [] (now (place .entry)) ⌝ }
 {
-    let x = record_of(record).write(nodes, list, enable, address, data);
-    put_record(record, x.after);
+    let x = record_words::record_of(record).write(nodes, list, enable, address, data);
+    record_words::put_record(record, x.after);
     let answer = x.answer;
     match answer {
         WriteAnswer::Entered(k) => {
@@ -167,8 +145,8 @@ pub extern "C" fn md_check(
 ) -> u32
     ensures { λ r. ⌜ left r (now («record» .exit)) (now (nodes .exit)) (now (list .entry)) [] [] 0 ≡ called (access (check b (now (address .entry)) (now («data» .entry)))) (now («record» .entry)) (now (nodes .entry)) (now (list .entry)) [] [] 0 ⌝ }
 {
-    let x = record_of(record).check(nodes, list, ControlNode(b), address, data);
-    put_record(record, x.after);
+    let x = record_words::record_of(record).check(nodes, list, ControlNode(b), address, data);
+    record_words::put_record(record, x.after);
     let answer = x.answer;
     match answer {
         CheckAnswer::Accepted => 0,
@@ -189,8 +167,8 @@ pub extern "C" fn md_assert(
 ) -> u32
     ensures { λ r. ⌜ left r (now («record» .exit)) (now (nodes .exit)) (now (list .exit)) [] [] (now (entered .exit)) ≡ called (access (assert b (now (address .entry)) (now («data» .entry)))) (now («record» .entry)) (now (nodes .entry)) (now (list .entry)) [] [] (now (entered .entry)) ⌝ }
 {
-    let x = record_of(record).assert(nodes, list, ControlNode(b), address, data);
-    put_record(record, x.after);
+    let x = record_words::record_of(record).assert(nodes, list, ControlNode(b), address, data);
+    record_words::put_record(record, x.after);
     let answer = x.answer;
     match answer {
         AssertAnswer::Entered => {
@@ -219,13 +197,69 @@ pub extern "C" fn md_read(
 ) -> u32
     ensures { λ r. ⌜ left r (now («record» .exit)) (now (nodes .exit)) (now (list .entry)) (now (ports .exit)) (now (answer .exit)) 0 ≡ called (access (read port (now (enable .entry)) (now (address .entry)) (now (answer .entry)))) (now («record» .entry)) (now (nodes .entry)) (now (list .entry)) (now (ports .entry)) (now (answer .entry)) 0 ⌝ }
 {
-    let x = record_of(record).read(nodes, list, ports, port, enable, address, answer);
-    put_record(record, x.after);
+    let x = record_words::record_of(record).read(nodes, list, ports, port, enable, address, answer);
+    record_words::put_record(record, x.after);
     let filled = x.answer;
     match filled {
         ReadAnswer::Filled => 0,
         ReadAnswer::Refused(k) => k,
     }
+}
+
+// Asserts by a written formula.
+#[no_mangle]
+pub extern "C" fn md_assert_formula(
+    record: &mut [u32; 6],
+    nodes: &mut [u32],
+    list: &mut [u32],
+    text: &[u8],
+    table: &[u32],
+    answer: &mut [u32],
+    listed: &mut u64,
+    made: &mut u64,
+    place: &mut u64,
+) -> u32
+    ensures { λ r. ⌜ leftFormula r (now («record» .exit)) (now (nodes .exit)) (now (list .exit)) (now (answer .exit)) (now (listed .exit)) (now (made .exit)) (now (place .exit)) ≡ formulaCalled asserting (now (text .entry)) (now (table .entry)) (now («record» .entry)) (now (nodes .entry)) (now (list .entry)) (now (answer .entry)) (now (listed .entry)) (now (made .entry)) (now (place .entry)) ⌝ }
+{
+    formula_words::assert_formula(
+        record,
+        nodes,
+        list,
+        text,
+        table,
+        answer,
+        listed,
+        made,
+        place,
+    )
+}
+
+// Checks by one.
+#[no_mangle]
+pub extern "C" fn md_check_formula(
+    record: &mut [u32; 6],
+    nodes: &mut [u32],
+    list: &[u32],
+    text: &[u8],
+    table: &[u32],
+    answer: &mut [u32],
+    listed: &mut u64,
+    made: &mut u64,
+    place: &mut u64,
+) -> u32
+    ensures { λ r. ⌜ leftFormula r (now («record» .exit)) (now (nodes .exit)) (now (list .entry)) (now (answer .exit)) (now (listed .exit)) (now (made .exit)) (now (place .exit)) ≡ formulaCalled checking (now (text .entry)) (now (table .entry)) (now («record» .entry)) (now (nodes .entry)) (now (list .entry)) (now (answer .entry)) (now (listed .entry)) (now (made .entry)) (now (place .entry)) ⌝ }
+{
+    formula_words::check_formula(
+        record,
+        nodes,
+        list,
+        text,
+        table,
+        answer,
+        listed,
+        made,
+        place,
+    )
 }
 
 // A case file: count is the text length, or K where the case is refused.
@@ -243,7 +277,7 @@ pub extern "C" fn md_case(
     let answer = casefile::run_case(case, nodes, list, text);
     match answer {
         CaseAnswer::Done { length, memory } => {
-            put_record(record, memory);
+            record_words::put_record(record, memory);
             *count = length as u64;
             0
         }
