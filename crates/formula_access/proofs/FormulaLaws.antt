@@ -7,7 +7,7 @@ use Rattle.conditions.specs.Contract.{Sound}
 use Rattle.model.specs.Rows.{firstRow, memoryRows}
 use Rattle.model.specs.Step.{Access, begin}
 use Rattle.model.specs.Frames.{Valid}
-use Rattle.formula_calls.specs.Call.{Making, faulty, refusedBy, stopped, allMade, accessesBy, Made, make, listedOver, unlessRow, byVerdict, found, limitsOf, refusedItself, answerBy, finishFormula, formulaStep}
+use Rattle.formula_calls.specs.Call.{Making, faulty, refusedBy, stopped, allMade, accessesBy, Made, make, listedOver, unlessRow, byVerdict, readFormula, limitsOf, refusedItself, answerBy, finishFormula, formulaStep}
 use Rattle.formula_calls.specs.Chain.{FormulaAnswered}
 use Rattle.formula_calls.proofs.FoundLaws.{memory-told}
 use Rattle.formulas.specs.Reading.{judgeText}
@@ -24,7 +24,7 @@ use Rattle.preparing.proofs.TripleLaws.{from-many}
 -- rows 1 to 3 refuse it
 pub memory-refuses : (k : Making) (text predicates out : List ℕ) (r : Fields) (w l : List ℕ) {row : ℕ} → row ≡ firstRow (memoryRows (recordOf r) w l []) → (row ≡ 0 → ⊥)
     → FormulaAnswered k text predicates out (stateOf r w l) (stateOf r w l) out (refusedBy row)
-unfolding formulaStep found
+unfolding formulaStep readFormula
 memory-refuses k text predicates out r w l {row} e n = ap (λ (j : ℕ). finishFormula k predicates out (stateOf r w l) (unlessRow j (byVerdict text out (judgeText (limitsOf (stateOf r w l) predicates) text)))) (sym e) ∙ go row n
   where
     go : (j : ℕ) → (j ≡ 0 → ⊥) → finishFormula k predicates out (stateOf r w l) (unlessRow j (byVerdict text out (judgeText (limitsOf (stateOf r w l) predicates) text))) ≡ refusedItself (refusedBy j) (stateOf r w l) out
@@ -41,7 +41,7 @@ module _ (r : Fields) (w l : List ℕ) {row : ℕ} (e : row ≡ firstRow (memory
 
   module _ (k : Making) (text predicates out : List ℕ) where
     comes : formulaStep k text predicates out (stateOf r w l) ≡ comesTo k r w l text predicates out
-    unfolding formulaStep found
+    unfolding formulaStep readFormula
     comes = ap (λ (j : ℕ). finishFormula k predicates out (stateOf r w l) (unlessRow j (byVerdict text out (judgeText (limitsOf (stateOf r w l) predicates) text)))) (sym e ∙ z)
 
     module _ {w′ out′ : List ℕ} {p : Prepared} (t′ : List ℕ) (P : PreparedAs r w text predicates out w′ t′ out′ p) where

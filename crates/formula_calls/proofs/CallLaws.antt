@@ -6,7 +6,7 @@ use mathlib.Core.List.{List, _∷_}
 use Prim.Native.Nat.{ℕ, zero, suc}
 use lib.ListN.{length}
 use Rattle.model.specs.Step.{State, conditions, Call, nodeCall, Answer, refused, done, isRefused, triplesOf, step, run}
-use Rattle.formula_calls.specs.Call.{Making, inOrder, accessesBy, make, Found, turnsDown, reads, found, answerBy, afterBuilding, finishFormula, formulaStep}
+use Rattle.formula_calls.specs.Call.{Making, inOrder, accessesBy, make, Found, turnsDown, reads, readFormula, answerBy, afterBuilding, finishFormula, formulaStep}
 use Rattle.formula_calls.specs.Claims.{triedAfter, tried, callsFound, callsOf, Tells, FormulaIsCalls}
 use Rattle.formula_calls.proofs.FoundLaws.{Finds, by-memory, by-fault, by-short, by-tree, finds, conditions-nine}
 use Rattle.formula_calls.proofs.MakeLaws.{accesses-length, make-leaves, Ended, make-ended}
@@ -50,4 +50,4 @@ module _ (k : Making) (text table out : List ℕ) (s : State) where
 
 pub formula-is-calls : FormulaIsCalls
 unfolding FormulaIsCalls formulaStep callsOf
-formula-is-calls k text table out s = record { leaves = found-leaves k text table out s (found text table out s); tells = found-tells k text table out s (found text table out s) (finds text table out s) }
+formula-is-calls k text table out s = record { leaves = found-leaves k text table out s (readFormula text table out s); tells = found-tells k text table out s (readFormula text table out s) (finds text table out s) }

@@ -6,14 +6,14 @@ use Rattle.model.specs.Formula.{Triples}
 use Rattle.model.specs.Access.{uniqueBit, Unique, Certain, Write, narrowBit, Narrow, halfStep, EachHalf, mergeHalf, entryStep, settleHalf, Look, insideHalf, Inside, Check, Assert}
 use Rattle.model.specs.Rows.{row1, row3}
 use Rattle.model.specs.Step.{closed, unlessFull, enter, finishAccess, finishNode, step}
-use Rattle.formula_calls.specs.Call.{make, found, formulaStep}
+use Rattle.formula_calls.specs.Call.{make, readFormula, formulaStep}
 use Rattle.formula_calls.specs.Examples.{FormulasByHand}
 
 pub formulas-by-hand : FormulasByHand
 unfolding
     computing
     listCapacity appended Triples uniqueBit Unique Certain Write narrowBit Narrow halfStep EachHalf mergeHalf entryStep settleHalf Look insideHalf Inside Check Assert
-    row1 row3 closed unlessFull enter finishAccess finishNode step make found formulaStep
+    row1 row3 closed unlessFull enter finishAccess finishNode step make readFormula formulaStep
 formulas-by-hand =
     record {
       arrows = refl;

@@ -19,7 +19,7 @@ use Rattle.model.specs.Step.{State, conditions, nodeCall, refused, step}
 use Rattle.model.proofs.FactLaws.{either, Told, told, not-both, row1-tells, row3-tells, names}
 use Rattle.model.proofs.TableLaws.{refused-exactly}
 use Rattle.model.proofs.PairLaws.{T→eq}
-use Rattle.formula_calls.specs.Call.{limitsOf, faulty, refusedBy, Found, turnsDown, reads, unlessRow, byVerdict, found}
+use Rattle.formula_calls.specs.Call.{limitsOf, faulty, refusedBy, Found, turnsDown, reads, unlessRow, byVerdict, readFormula}
 
 -- rows 1 to 3, as facts
 abbrev pub memory : State → List Fact
@@ -49,8 +49,8 @@ module _ (text table out : List ℕ) (s : State) where
   place-left : (k : ℕ) (x : List ℕ) → First (limitsOf s table) text k x → length text - length x + length x ≡ length text
   place-left k x F = let (p, e) = reader (limitsOf s table) .inside text k x (F .wrong) in let z : length text ≡ length p + length x = ap length e ∙ length-append p x in omega arith
 
-  pub finds : Finds (found text table out s)
-  unfolding found
+  pub finds : Finds (readFormula text table out s)
+  unfolding readFormula
   finds = go _ (memory-told s)
     where
       room : (t : Tree) (b : Bool) → AllHold (memory s) → judgeText (limitsOf s table) text ≡ fine t [] → (b ≡ true → 3 * length (listed 0 [] t) ≤ length out) → (b ≡ false → length out < 3 * length (listed 0 [] t))
@@ -67,19 +67,19 @@ module _ (text table out : List ℕ) (s : State) where
       go (suc k) M = by-memory (suc k) (M .first k refl)
 
   -- and there each is found
-  pub found-memory : (j : ℕ) → FirstFails j (memory s) → found text table out s ≡ turnsDown (refusedBy j)
-  unfolding found
+  pub found-memory : (j : ℕ) → FirstFails j (memory s) → readFormula text table out s ≡ turnsDown (refusedBy j)
+  unfolding readFormula
   found-memory zero F = absurd (omega (arith, memory-row s 0 F .0))
   found-memory (suc j) F = rw (memory-told s .from (suc j) F)
 
-  pub found-judged : AllHold (memory s) → (v : Verdict) → judgeText (limitsOf s table) text ≡ v → found text table out s ≡ byVerdict text out v
-  unfolding found
+  pub found-judged : AllHold (memory s) → (v : Verdict) → judgeText (limitsOf s table) text ≡ v → readFormula text table out s ≡ byVerdict text out v
+  unfolding readFormula
   found-judged A v e = rw (memory-told s .all A, e)
 
-  pub found-short : AllHold (memory s) → (t : Tree) → judgeText (limitsOf s table) text ≡ fine t [] → length out < 3 * length (listed 0 [] t) → found text table out s ≡ turnsDown (refusedBy 13)
+  pub found-short : AllHold (memory s) → (t : Tree) → judgeText (limitsOf s table) text ≡ fine t [] → length out < 3 * length (listed 0 [] t) → readFormula text table out s ≡ turnsDown (refusedBy 13)
   found-short A t e h = found-judged A (fine t []) e ∙ rw (lt-leb (3 * length (listed 0 [] t)) (length out) h)
 
-  pub found-tree : AllHold (memory s) → (t : Tree) → judgeText (limitsOf s table) text ≡ fine t [] → 3 * length (listed 0 [] t) ≤ length out → found text table out s ≡ reads t
+  pub found-tree : AllHold (memory s) → (t : Tree) → judgeText (limitsOf s table) text ≡ fine t [] → 3 * length (listed 0 [] t) ≤ length out → readFormula text table out s ≡ reads t
   found-tree A t e h = found-judged A (fine t []) e ∙ rw (le-leb (3 * length (listed 0 [] t)) (length out) h)
 
 -- a tree whose numbers are good has nodes before its arrows that 5 accepts

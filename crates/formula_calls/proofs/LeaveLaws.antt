@@ -10,7 +10,7 @@ use Rattle.model.specs.Step.{State, withWords, Access, conditions, Call, nodeCa
 use Rattle.model.specs.Frames.{wordsAfter, clears}
 use Rattle.model.specs.Frames as frames
 use Rattle.model.proofs.FrameLaws.{refusal-leaves}
-use Rattle.formula_calls.specs.Call.{Making, inOrder, accessesBy, make, faulty, refusedBy, stopped, allMade, FormulaResult, Found, turnsDown, found, answerBy, afterBuilding, finishFormula, formulaStep}
+use Rattle.formula_calls.specs.Call.{Making, inOrder, accessesBy, make, faulty, refusedBy, stopped, allMade, FormulaResult, Found, turnsDown, readFormula, answerBy, afterBuilding, finishFormula, formulaStep}
 use Rattle.formula_calls.specs.Claims.{tried, triedAfter, callsFound, callsOf, RefusalLeaves, FormulaRefusalLeaves}
 use Rattle.formula_calls.proofs.AnswerLaws.{apart, refused-same, made-kind}
 use Rattle.formula_calls.proofs.FoundLaws.{memory-row, Finds, by-memory, by-fault, by-short, by-tree, finds}
@@ -84,5 +84,5 @@ module _ (k : Making) (text table out : List ℕ) (s : State) where
 pub formula-refusal-leaves : FormulaRefusalLeaves
 unfolding FormulaRefusalLeaves formulaStep callsOf
 formula-refusal-leaves k text table out s =
-    let L = found-leaves k text table out s (found text table out s) (finds text table out s) in
+    let L = found-leaves k text table out s (readFormula text table out s) (finds text table out s) in
     record { by-text = L .by-text; by-row = L .by-row; at-access = L .at-access }

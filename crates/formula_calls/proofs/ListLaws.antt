@@ -16,7 +16,7 @@ use Rattle.model.proofs.Demand2.{conditions-stand}
 use Rattle.model.proofs.FinishLaws.{of-program}
 use Rattle.model.proofs.FormulaLaws.{are-listed}
 use Rattle.model.proofs.FrameLaws.{stays-valid}
-use Rattle.formula_calls.specs.Call.{Making, inOrder, listedOver, accessesBy, make, FormulaResult, Found, found, answerBy, afterBuilding, finishFormula, formulaStep}
+use Rattle.formula_calls.specs.Call.{Making, inOrder, listedOver, accessesBy, make, FormulaResult, Found, readFormula, answerBy, afterBuilding, finishFormula, formulaStep}
 use Rattle.formula_calls.specs.Claims.{tried, ReadAs, HasListed, FormulaLists}
 use Rattle.formula_calls.proofs.FoundLaws.{Finds, by-memory, by-fault, by-short, by-tree, finds}
 use Rattle.formula_calls.proofs.MakeLaws.{make-leaves}
@@ -118,5 +118,5 @@ module _ (k : Making) (text table out : List ℕ) (s : State) (n : ℕ) where
 pub formula-lists : FormulaLists
 unfolding FormulaLists formulaStep
 formula-lists k text table out s n h =
-    let L = found-lists k text table out s n (found text table out s) (finds text table out s) h in
-    record { tree = L .tree; triples = L .listing; read = L .read; many = L .many; fits = L .fits; words = stands-in (L .listing) out (finishFormula k table out s (found text table out s) .words) (omega (arith, L .fits, L .many, L .lists)) (L .words); means = L .means }
+    let L = found-lists k text table out s n (readFormula text table out s) (finds text table out s) h in
+    record { tree = L .tree; triples = L .listing; read = L .read; many = L .many; fits = L .fits; words = stands-in (L .listing) out (finishFormula k table out s (readFormula text table out s) .words) (omega (arith, L .fits, L .many, L .lists)) (L .words); means = L .means }

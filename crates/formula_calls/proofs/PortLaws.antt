@@ -9,7 +9,7 @@ use Rattle.model.specs.Formula.{Triple}
 use Rattle.model.specs.Step.{State, withPorts, conditions, access, nodeCall, Answer, refused, done, triplesOf, Result, step}
 use Rattle.model.specs.Frames.{isRead, PortsUnseen}
 use Rattle.model.proofs.UnseenLaws.{ports-unseen}
-use Rattle.formula_calls.specs.Call.{Making, asserting, checking, inOrder, listedOver, accessBy, accessesBy, Made, unlessRefused, make, FormulaAnswer, FormulaResult, Found, turnsDown, reads, found, answerBy, makeListed, afterBuilding, finishFormula, formulaStep}
+use Rattle.formula_calls.specs.Call.{Making, asserting, checking, inOrder, listedOver, accessBy, accessesBy, Made, unlessRefused, make, FormulaAnswer, FormulaResult, Found, turnsDown, reads, readFormula, answerBy, makeListed, afterBuilding, finishFormula, formulaStep}
 use Rattle.formula_calls.specs.Claims.{FormulaPortsUnseen}
 use Rattle.formula_calls.specs.Chain.{FormulaAnswered}
 
@@ -49,8 +49,8 @@ finish-unseen k table out s ps (reads t) =
     ap (λ (x : Result). afterBuilding k (s .rec) table out (x .answer) (x .after)) (ports-unseen c s ps refl) ∙ after-unseen k (s .rec) table out (step c s .answer) (step c s .after) ps
 
 pub formula-ports-unseen : FormulaPortsUnseen
-unfolding FormulaPortsUnseen formulaStep found
-formula-ports-unseen k text table out s ps = finish-unseen k table out s ps (found text table out s)
+unfolding FormulaPortsUnseen formulaStep readFormula
+formula-ports-unseen k text table out s ps = finish-unseen k table out s ps (readFormula text table out s)
 
 -- so a promise for no ports is one for any
 pub formula-any-ports : (k : Making) (text table out : List ℕ) (s t : State) (out′ : List ℕ) (a : FormulaAnswer) → FormulaAnswered k text table out s t out′ a → (ps : List ℕ) → FormulaAnswered k text table out (withPorts s ps) (withPorts t ps) out′ a

@@ -16,7 +16,7 @@ use Rattle.formulas.proofs.ClaimLaws.{reads as reader, orders}
 use Rattle.model.specs.Table.{AllHold, FirstFails, Overflows}
 use Rattle.model.specs.Step.{State, conditions, Call, nodeCall, Answer, refused, done, triplesOf, step}
 use Rattle.model.proofs.FactLaws.{names}
-use Rattle.formula_calls.specs.Call.{Making, predicateWords, predicatesIn, limitsOf, inOrder, accessesBy, make, FormulaAnswer, faulty, refusedBy, Found, reads, found, answerBy, afterBuilding, finishFormula, formulaStep}
+use Rattle.formula_calls.specs.Call.{Making, predicateWords, predicatesIn, limitsOf, inOrder, accessesBy, make, FormulaAnswer, faulty, refusedBy, Found, reads, readFormula, answerBy, afterBuilding, finishFormula, formulaStep}
 use Rattle.formula_calls.specs.Claims.{ReadAs, NumbersExactly, RowsExactly, FormulaRows}
 use Rattle.formula_calls.proofs.AnswerLaws.{kind, apart, refused-same, made-kind}
 use Rattle.formula_calls.proofs.FoundLaws.{memory, memory-row, Finds, by-memory, by-fault, by-short, by-tree, finds, found-memory, found-judged, found-short, found-tree, conditions-nine, nine-conditions}
@@ -79,7 +79,7 @@ module _ (k : Making) (text table out : List ℕ) (s : State) where
 
   answers : Answers (formulaStep k text table out s .answer)
   unfolding formulaStep
-  answers = found-answers (found text table out s) (finds text table out s)
+  answers = found-answers (readFormula text table out s) (finds text table out s)
 
   not-made : {C : Type 0} (j n m : ℕ) (a : FormulaAnswer) → answerBy j n m ≡ a → kind a ≤ 1 → C
   not-made j n m a e h = apart (answerBy j n m) a e (λ q. omega (arith, made-kind j n m))
@@ -123,7 +123,7 @@ module _ (k : Making) (text table out : List ℕ) (s : State) where
   is-one a (at-accesses i n m) j e = not-made i n m (refusedBy j) e (omega arith)
 
   -- and back: the answer by what is found
-  by-found : (f : Found) → found text table out s ≡ f → formulaStep k text table out s .answer ≡ finishFormula k table out s f .answer
+  by-found : (f : Found) → readFormula text table out s ≡ f → formulaStep k text table out s .answer ≡ finishFormula k table out s f .answer
   unfolding formulaStep
   by-found f e = ap (λ (f : Found). finishFormula k table out s f .answer) e
 

@@ -99,8 +99,8 @@ byVerdict text out (fine t r) = cond (leb (3 * length (listed 0 [] t)) (length o
 byVerdict text out (wrong k x) = turnsDown (faulty k (length text - length x))
 
 -- "15 ..; 16 ..; both after 3, the earlier place first, then 13 for a short answer slice"
-unfoldable pub found : List ℕ → List ℕ → List ℕ → State → Found
-found text table out s = unlessRow (firstRow (memoryRows (s .rec) (s .words) (s .list) [])) (byVerdict text out (judgeText (limitsOf s table) text))
+unfoldable pub readFormula : List ℕ → List ℕ → List ℕ → State → Found
+readFormula text table out s = unlessRow (firstRow (memoryRows (s .rec) (s .words) (s .list) [])) (byVerdict text out (judgeText (limitsOf s table) text))
 
 abbrev pub refusedItself : FormulaAnswer → State → List ℕ → FormulaResult
 refusedItself a t out = record { answer = a; after = t; words = out }
@@ -127,4 +127,4 @@ finishFormula k table out s (reads t) = afterBuilding k (s .rec) table out (step
 
 -- the call, lent a text, a table of predicates and an answer slice
 unfoldable pub formulaStep : Making → List ℕ → List ℕ → List ℕ → State → FormulaResult
-formulaStep k text table out s = finishFormula k table out s (found text table out s)
+formulaStep k text table out s = finishFormula k table out s (readFormula text table out s)

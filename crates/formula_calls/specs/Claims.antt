@@ -15,7 +15,7 @@ use Rattle.model.specs.Step.{State, withWords, withPorts, Access, conditions, C
 use Rattle.model.specs.Frames.{wordsAfter, clears}
 use Rattle.model.specs.Meanings.{AreListed}
 use Rattle.model.specs.Table.{Names, memoryFacts, AllHold, FirstFails, Overflows}
-use Rattle.formula_calls.specs.Call.{Making, limitsOf, inOrder, listedOver, accessesBy, FormulaAnswer, faulty, refusedBy, stopped, allMade, Found, turnsDown, reads, found, formulaStep}
+use Rattle.formula_calls.specs.Call.{Making, limitsOf, inOrder, listedOver, accessesBy, FormulaAnswer, faulty, refusedBy, stopped, allMade, Found, turnsDown, reads, readFormula, formulaStep}
 
 -- The calls that a formula stands for: none where it is refused before anything is built; else its conditions, as one node call, and its accesses in order, up to and with the first that is refused
 abbrev pub unlessRefused : Answer → List Call → List Call
@@ -35,7 +35,7 @@ callsFound k table s (turnsDown a) = []
 callsFound k table s (reads t) = nodeCall (conditions t) ∷ triedAfter k (s .rec) table (step (nodeCall (conditions t)) s .answer) (step (nodeCall (conditions t)) s .after)
 
 unfoldable pub callsOf : Making → List ℕ → List ℕ → List ℕ → State → List Call
-callsOf k text table out s = callsFound k table s (found text table out s)
+callsOf k text table out s = callsFound k table s (readFormula text table out s)
 
 -- every call of a list is accepted; the first m are, and the next, which is the last, is refused by row k
 abbrev pub AllAccepted : List Call → State → Type 0

@@ -4,12 +4,12 @@ use mathlib.Core.List.{List, []}
 use Prim.Native.Nat.{ℕ}
 use Rattle.model.specs.Record as model
 use Rattle.memory.specs.declared.Record.{Record}
-use Rattle.memory.specs.Contract.{recordOf, stateOf, FormulaAnswersAnyPorts}
+use Rattle.memory.specs.Contract.{recordOf, FormulaAnswersAnyPorts}
 use Rattle.formula_access.specs.declared.FormulaAnswer.{FormulaAnswer}
 use Rattle.formula_access.specs.Contract.{answerOf}
 use Rattle.formula_calls.specs.Call.{Making, FormulaResult, formulaStep}
 use Rattle.record_words.specs.Words.{recordIn, wordsOf}
-use Rattle.formula_words.specs.Contract.{Told, told, tells, leftFormula, LeftFormula, formulaBy, formulaCalled}
+use Rattle.formula_words.specs.Contract.{Told, told, tells, leftFormula, formulaBy, formulaCalled}
 
 pub formula-is : (k : Making) (text table : List ℕ) {m m′ : Record} {r′ w′ l′ a′ : List ℕ} (r w l a : List ℕ) (n i p : ℕ) (x : FormulaAnswer) {j n′ i′ p′ : ℕ}
     → recordOf m ≡ recordIn r

@@ -2,7 +2,7 @@
 use mathlib.Core.Path.{_≡_, refl, sym, ap, _∙_, subst}
 use mathlib.Core.Bool.{Bool, true, false, cond, _&&_, true≢false}
 use mathlib.Core.List.{List, [], _∷_}
-use Prim.Native.Nat.{ℕ, zero, suc, _+_, _*_, _-_, _<_, _≤_, min}
+use Prim.Native.Nat.{ℕ, zero, suc, _-_, _<_, _≤_}
 use native.Mathlib.Omega.{arith}
 use lib.Dec.{T, eqb, ltb, leb, eqb→eq, leb→le, le→leb}
 use lib.ListN.{length, getD, drop, length-drop, drop-of-length-le}
@@ -14,7 +14,7 @@ use Rattle.conditions.specs.Stores.{Standard}
 use Rattle.conditions.specs.User.{isUser}
 use Rattle.conditions.proofs.Promises.{user-is}
 use Rattle.tokens.specs.declared.Token.{Token}
-use Rattle.tokens.specs.Contract.{Left, starts, startsDigit, capped, DigitsLeft, Took, took, stops, tookBy, TookAt, Judges, NumberTook, numberToken, withinTable, opens, openerToken, arrowToken, thenTook, whenToken}
+use Rattle.tokens.specs.Contract.{Left, starts, startsDigit, capped, DigitsLeft, Took, took, stops, tookBy, TookAt, Judges, NumberTook, withinTable, opens, openerToken, arrowToken, thenTook}
 
 T-true : (b : Bool) → T b → b ≡ true
 T-true true h = refl

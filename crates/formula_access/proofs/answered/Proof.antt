@@ -2,8 +2,6 @@ use mathlib.Core.Path.{refl}
 use Rattle.formula_access.proofs.FormulaLaws.{stopped-by, all-made}
 use Rattle.formula_access.proofs.answered.Statement.{statement}
 use Rattle.formula_access.proofs.answered.Tie as tie
-use Rattle.formula_access.proofs.answered.Reads as reads
-use Rattle.formula_access.proofs.answered.Lts as lts
 
 returns : tie.Need-returns
 returns c = (refl, stopped-by _ _ _ (c .if1 .taken))

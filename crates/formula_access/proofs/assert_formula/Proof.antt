@@ -8,13 +8,6 @@ use Rattle.formula_access.proofs.FormulaLaws.{memory-refuses, valid, ma
 use borrow.Author.Needs.{needs}
 use Rattle.formula_access.proofs.assert_formula.Statement.{statement}
 use Rattle.formula_access.proofs.assert_formula.Tie as tie
-use Rattle.formula_access.proofs.assert_formula.Reads as reads
-use Rattle.formula_access.proofs.assert_formula.Lts as lts
-use Rattle.formula_access.proofs.answered.Reads as answered-reads
-use Rattle.formula_access.proofs.with_count.Reads as with-count-reads
-use Rattle.making.proofs.make_asserts.Reads as make-asserts-reads
-use Rattle.preparing.proofs.prepare.Reads as prepare-reads
-use Rattle.rows.proofs.Fields.memory_row.Reads as memory-row-reads
 
 memory-row-requires : tie.Need-memory-row-requires
 memory-row-requires c κs = search needs

@@ -4,12 +4,6 @@ use Rattle.formula_words.proofs.FormulaLaws.{formula-is}
 use borrow.Author.Needs.{needs}
 use Rattle.formula_words.proofs.assert_formula.Statement.{statement}
 use Rattle.formula_words.proofs.assert_formula.Tie as tie
-use Rattle.formula_words.proofs.assert_formula.Reads as reads
-use Rattle.formula_words.proofs.assert_formula.Lts as lts
-use Rattle.formula_words.proofs.tell.Reads as tell-reads
-use Rattle.memory.proofs.Record.assert_formula.Reads as assert-formula-reads
-use Rattle.record_words.proofs.put_record.Reads as put-record-reads
-use Rattle.record_words.proofs.record_of.Reads as record-of-reads
 
 record-of-requires : tie.Need-record-of-requires
 record-of-requires c κs = search needs

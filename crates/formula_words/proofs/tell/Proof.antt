@@ -2,8 +2,6 @@ use mathlib.Core.Path.{refl}
 use borrow.Author.Needs.{needs}
 use Rattle.formula_words.proofs.tell.Statement.{statement}
 use Rattle.formula_words.proofs.tell.Tie as tie
-use Rattle.formula_words.proofs.tell.Reads as reads
-use Rattle.formula_words.proofs.tell.Lts as lts
 
 enum-known-a : tie.Need-enum-known-a
 enum-known-a c = search needs

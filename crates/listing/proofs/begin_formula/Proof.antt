@@ -5,13 +5,6 @@ use Rattle.listing.proofs.WalkLaws.{standard-older, leads-conjunction, 
 use borrow.Author.Needs.{needs}
 use Rattle.listing.proofs.begin_formula.Statement.{statement}
 use Rattle.listing.proofs.begin_formula.Tie as tie
-use Rattle.listing.proofs.begin_formula.Reads as reads
-use Rattle.listing.proofs.begin_formula.Lts as lts
-use Rattle.listing.proofs.condition_in.Reads as condition-in-reads
-use Rattle.listing.proofs.inner.Reads as inner-reads
-use Rattle.listing.proofs.moved.Reads as moved-reads
-use Rattle.tokens.proofs.stands.Reads as stands-reads
-use Rattle.tokens.proofs.when_token.Reads as when-token-reads
 
 stands-requires : tie.Need-stands-requires
 stands-requires c κs = search needs

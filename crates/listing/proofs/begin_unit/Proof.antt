@@ -6,13 +6,6 @@ use Rattle.listing.proofs.WalkLaws.{unit-named, unit-none, opener-passe
 use borrow.Author.Needs.{needs}
 use Rattle.listing.proofs.begin_unit.Statement.{statement}
 use Rattle.listing.proofs.begin_unit.Tie as tie
-use Rattle.listing.proofs.begin_unit.Reads as reads
-use Rattle.listing.proofs.begin_unit.Lts as lts
-use Rattle.listing.proofs.inner.Reads as inner-reads
-use Rattle.listing.proofs.moved.Reads as moved-reads
-use Rattle.listing.proofs.predicate.Reads as predicate-reads
-use Rattle.tokens.proofs.opener_token.Reads as opener-token-reads
-use Rattle.tokens.proofs.stands.Reads as stands-reads
 
 stands-requires : tie.Need-stands-requires
 stands-requires c κs = search needs

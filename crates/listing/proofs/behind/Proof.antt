@@ -4,10 +4,6 @@ use Rattle.listing.proofs.PlaceLaws.{behind-is}
 use borrow.Author.Needs.{needs}
 use Rattle.listing.proofs.behind.Statement.{statement}
 use Rattle.listing.proofs.behind.Tie as tie
-use Rattle.listing.proofs.behind.Reads as reads
-use Rattle.listing.proofs.behind.Lts as lts
-use Rattle.listing.proofs.moved.Reads as moved-reads
-use Rattle.tokens.proofs.spaces.Reads as spaces-reads
 
 add-spaces : tie.Need-add-spaces
 add-spaces c = search needs

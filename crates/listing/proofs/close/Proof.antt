@@ -5,11 +5,6 @@ use Rattle.listing.proofs.PlaceLaws.{closed-stopped, closed-missing, cl
 use borrow.Author.Needs.{needs}
 use Rattle.listing.proofs.close.Statement.{statement}
 use Rattle.listing.proofs.close.Tie as tie
-use Rattle.listing.proofs.close.Reads as reads
-use Rattle.listing.proofs.close.Lts as lts
-use Rattle.listing.proofs.behind.Reads as behind-reads
-use Rattle.listing.proofs.moved.Reads as moved-reads
-use Rattle.tokens.proofs.stands.Reads as stands-reads
 
 returns : tie.Need-returns
 returns c = closed-stopped (c .before .before .before .pre) (λ e. omega arith)

@@ -3,9 +3,6 @@ use native.Mathlib.Omega.{arith}
 use borrow.Author.Needs.{needs}
 use Rattle.listing.proofs.condition_in.Statement.{statement}
 use Rattle.listing.proofs.condition_in.Tie as tie
-use Rattle.listing.proofs.condition_in.Reads as reads
-use Rattle.listing.proofs.condition_in.Lts as lts
-use Rattle.conditions.proofs.and.Reads as and-reads
 
 enum-told : tie.Need-enum-told
 enum-told c = search needs

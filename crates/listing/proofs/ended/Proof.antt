@@ -3,9 +3,6 @@ use Rattle.listing.proofs.PlaceLaws.{ended-stopped, ended-past, ended-w
 use borrow.Author.Needs.{needs}
 use Rattle.listing.proofs.ended.Statement.{statement}
 use Rattle.listing.proofs.ended.Tie as tie
-use Rattle.listing.proofs.ended.Reads as reads
-use Rattle.listing.proofs.ended.Lts as lts
-use Rattle.listing.proofs.moved.Reads as moved-reads
 
 returns : tie.Need-returns
 returns c = ended-stopped (λ e. omega arith)

@@ -4,9 +4,6 @@ use borrow.Author.Tests.{eq-eqb, ne-eqb}
 use borrow.Author.Needs.{needs}
 use Rattle.listing.proofs.joined.Statement.{statement}
 use Rattle.listing.proofs.joined.Tie as tie
-use Rattle.listing.proofs.joined.Reads as reads
-use Rattle.listing.proofs.joined.Lts as lts
-use Rattle.tokens.proofs.stands.Reads as stands-reads
 
 returns : tie.Need-returns
 returns c = rw (ne-eqb (c .before .before .before .args .y .row) 0 (λ e. omega arith)) refl

@@ -6,9 +6,6 @@ use Rattle.listing.proofs.OutLaws.{listed-step, listed-other}
 use borrow.Author.Needs.{needs}
 use Rattle.listing.proofs.list.Statement.{statement}
 use Rattle.listing.proofs.list.Tie as tie
-use Rattle.listing.proofs.list.Reads as reads
-use Rattle.listing.proofs.list.Lts as lts
-use Rattle.listing.proofs.put_triple.Reads as put-triple-reads
 
 enum-told : tie.Need-enum-told
 enum-told c = search needs

@@ -5,11 +5,6 @@ use Rattle.listing.proofs.PlaceLaws.{may-count, named-stopped, named-ta
 use borrow.Author.Needs.{needs}
 use Rattle.listing.proofs.predicate.Statement.{statement}
 use Rattle.listing.proofs.predicate.Tie as tie
-use Rattle.listing.proofs.predicate.Reads as reads
-use Rattle.listing.proofs.predicate.Lts as lts
-use Rattle.listing.proofs.list.Reads as list-reads
-use Rattle.listing.proofs.moved.Reads as moved-reads
-use Rattle.tokens.proofs.predicate_token.Reads as predicate-token-reads
 
 predicate-token-requires : tie.Need-predicate-token-requires
 predicate-token-requires c κs = starts-in (c .before .before .args .text .now) (c .before .before .args .x .at) 109 (c .before .before .pre .1)

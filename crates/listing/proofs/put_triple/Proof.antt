@@ -6,8 +6,6 @@ use Rattle.listing.proofs.OutLaws.{put-fits, put-full}
 use borrow.Author.Needs.{needs}
 use Rattle.listing.proofs.put_triple.Statement.{statement}
 use Rattle.listing.proofs.put_triple.Tie as tie
-use Rattle.listing.proofs.put_triple.Reads as reads
-use Rattle.listing.proofs.put_triple.Lts as lts
 
 mul-k : tie.Need-mul-k
 mul-k c = search needs

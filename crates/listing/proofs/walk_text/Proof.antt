@@ -2,11 +2,6 @@ use borrow.Author.Needs.{needs}
 use Rattle.listing.proofs.JoinLaws.{may-begin, walked}
 use Rattle.listing.proofs.walk_text.Statement.{statement}
 use Rattle.listing.proofs.walk_text.Tie as tie
-use Rattle.listing.proofs.walk_text.Reads as reads
-use Rattle.listing.proofs.walk_text.Lts as lts
-use Rattle.listing.proofs.ended.Reads as ended-reads
-use Rattle.listing.proofs.formula.Reads as formula-reads
-use Rattle.tokens.proofs.spaces.Reads as spaces-reads
 
 spaces-requires : tie.Need-spaces-requires
 spaces-requires c κs = search needs

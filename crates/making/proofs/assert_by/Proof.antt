@@ -2,10 +2,6 @@ use Rattle.making.proofs.MakingLaws.{address-size, word-size, address-i
 use borrow.Author.Needs.{needs}
 use Rattle.making.proofs.assert_by.Statement.{statement}
 use Rattle.making.proofs.assert_by.Tie as tie
-use Rattle.making.proofs.assert_by.Reads as reads
-use Rattle.making.proofs.assert_by.Lts as lts
-use Rattle.assert_access.proofs.assert_on.Reads as assert-on-reads
-use Rattle.making.proofs.named_at.Reads as named-at-reads
 
 mul-t15 : tie.Need-mul-t15
 mul-t15 c = search needs

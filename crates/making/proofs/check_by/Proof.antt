@@ -2,10 +2,6 @@ use Rattle.making.proofs.MakingLaws.{address-size, word-size, address-i
 use borrow.Author.Needs.{needs}
 use Rattle.making.proofs.check_by.Statement.{statement}
 use Rattle.making.proofs.check_by.Tie as tie
-use Rattle.making.proofs.check_by.Reads as reads
-use Rattle.making.proofs.check_by.Lts as lts
-use Rattle.check_access.proofs.check_on.Reads as check-on-reads
-use Rattle.making.proofs.named_at.Reads as named-at-reads
 
 mul-t15 : tie.Need-mul-t15
 mul-t15 c = search needs

@@ -2,15 +2,12 @@ use mathlib.Core.Path.{_≡_, refl}
 use mathlib.Core.Bool.{cond}
 use Prim.Native.Nat.{_-_}
 use lib.ListN.{length}
-use Rattle.model.specs.Step.{accepted, kept, entered}
+use Rattle.model.specs.Step.{kept, entered}
 use Rattle.formula_calls.specs.Call.{asserting}
 use Rattle.making.proofs.MakingLaws.{SoFar, none-so-far, so-far-named, so-far-next, so-far-refused, so-far-all}
 use borrow.Author.Needs.{needs}
 use Rattle.making.proofs.make_asserts.Statement.{statement}
 use Rattle.making.proofs.make_asserts.Tie as tie
-use Rattle.making.proofs.make_asserts.Reads as reads
-use Rattle.making.proofs.make_asserts.Lts as lts
-use Rattle.making.proofs.assert_by.Reads as assert-by-reads
 
 abbrev Inv-loop : tie.InvT-loop
 Inv-loop words₀ list₀ table₀ predicates triples listed after₀ i₀ words list table after i =

@@ -1,16 +1,12 @@
 use mathlib.Core.Path.{_≡_, refl}
-use mathlib.Core.Bool.{cond}
 use Prim.Native.Nat.{_-_}
 use lib.ListN.{length}
-use Rattle.model.specs.Step.{accepted, kept, entered}
+use Rattle.model.specs.Step.{accepted}
 use Rattle.formula_calls.specs.Call.{checking}
 use Rattle.making.proofs.MakingLaws.{SoFar, none-so-far, so-far-named, so-far-next, so-far-refused, so-far-all}
 use borrow.Author.Needs.{needs}
 use Rattle.making.proofs.make_checks.Statement.{statement}
 use Rattle.making.proofs.make_checks.Tie as tie
-use Rattle.making.proofs.make_checks.Reads as reads
-use Rattle.making.proofs.make_checks.Lts as lts
-use Rattle.making.proofs.check_by.Reads as check-by-reads
 
 abbrev Inv-loop : tie.InvT-loop
 Inv-loop words₀ list table₀ predicates triples listed after₀ i₀ words table after i =

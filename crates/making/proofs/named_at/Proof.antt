@@ -3,10 +3,6 @@ use mathlib.Core.Path.{refl}
 use borrow.Author.Needs.{needs}
 use Rattle.making.proofs.named_at.Statement.{statement}
 use Rattle.making.proofs.named_at.Tie as tie
-use Rattle.making.proofs.named_at.Reads as reads
-use Rattle.making.proofs.named_at.Lts as lts
-use Rattle.making.proofs.predicate_words.Reads as predicate-words-reads
-use Rattle.making.proofs.wide.Reads as wide-reads
 
 predicate-words-requires : tie.Need-predicate-words-requires
 predicate-words-requires c κs = search needs

@@ -1,6 +1,5 @@
 use mathlib.Core.Path.{refl}
 use Rattle.memory.proofs.HandLaws.{refused-by, answered-by}
-use borrow.Author.Needs.{needs}
 use Rattle.memory.proofs.value_result.Statement.{statement}
 use Rattle.memory.proofs.value_result.Tie as tie
 

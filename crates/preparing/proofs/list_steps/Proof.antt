@@ -10,9 +10,6 @@ use Rattle.nodes.proofs.BoolLaws.{and-both, both-and}
 use Rattle.preparing.proofs.PassLaws.{WrittenTo, none-written, may-walk, step-written, all-listed}
 use Rattle.preparing.proofs.list_steps.Statement.{statement}
 use Rattle.preparing.proofs.list_steps.Tie as tie
-use Rattle.preparing.proofs.list_steps.Reads as reads
-use Rattle.preparing.proofs.list_steps.Lts as lts
-use Rattle.listing.proofs.walk_text.Reads as walk-text-reads
 
 abbrev Inv-loop : tie.InvT-loop
 Inv-loop text words₀ table₀ answer₀ predicates count s listed written₀ step₀ words table answer written step =

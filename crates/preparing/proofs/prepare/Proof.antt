@@ -5,13 +5,6 @@ use Rattle.preparing.proofs.PrepareLaws.{prepared-faulty, prepared-shor
 use borrow.Author.Needs.{needs}
 use Rattle.preparing.proofs.prepare.Statement.{statement}
 use Rattle.preparing.proofs.prepare.Tie as tie
-use Rattle.preparing.proofs.prepare.Reads as reads
-use Rattle.preparing.proofs.prepare.Lts as lts
-use Rattle.listing.proofs.walk_text.Reads as walk-text-reads
-use Rattle.making.proofs.predicate_words.Reads as predicate-words-reads
-use Rattle.preparing.proofs.list_steps.Reads as list-steps-reads
-use Rattle.rows.proofs.Fields.begin.Reads as begin-reads
-use Rattle.rows.proofs.clear_where.Reads as clear-where-reads
 
 predicate-words-requires : tie.Need-predicate-words-requires
 predicate-words-requires c κs = search needs

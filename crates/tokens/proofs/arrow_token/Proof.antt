@@ -5,10 +5,6 @@ use Rattle.tokens.proofs.TokenLaws.{starts-in, arrow-none, arrow-half, 
 use borrow.Author.Needs.{needs}
 use Rattle.tokens.proofs.arrow_token.Statement.{statement}
 use Rattle.tokens.proofs.arrow_token.Tie as tie
-use Rattle.tokens.proofs.arrow_token.Reads as reads
-use Rattle.tokens.proofs.arrow_token.Lts as lts
-use Rattle.tokens.proofs.spaces.Reads as spaces-reads
-use Rattle.tokens.proofs.stands.Reads as stands-reads
 
 stands-requires : tie.Need-stands-requires
 stands-requires c κs = search needs

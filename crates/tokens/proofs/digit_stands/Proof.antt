@@ -3,8 +3,6 @@ use Rattle.tokens.proofs.TokenLaws.{digit-is, digit-past}
 use borrow.Author.Needs.{needs}
 use Rattle.tokens.proofs.digit_stands.Statement.{statement}
 use Rattle.tokens.proofs.digit_stands.Tie as tie
-use Rattle.tokens.proofs.digit_stands.Reads as reads
-use Rattle.tokens.proofs.digit_stands.Lts as lts
 
 shared-slice-read-c : tie.Need-shared-slice-read-c
 shared-slice-read-c c = search needs

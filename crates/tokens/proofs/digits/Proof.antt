@@ -7,10 +7,6 @@ use borrow.Author.Needs.{needs}
 use Rattle.tokens.proofs.TokenLaws.{DigitsLoop, digits-more, digits-done, digit-in, digit-here}
 use Rattle.tokens.proofs.digits.Statement.{statement}
 use Rattle.tokens.proofs.digits.Tie as tie
-use Rattle.tokens.proofs.digits.Reads as reads
-use Rattle.tokens.proofs.digits.Lts as lts
-use Rattle.tokens.proofs.digit_stands.Reads as digit-stands-reads
-use Rattle.tokens.proofs.join.Reads as join-reads
 
 abbrev Inv-loop : tie.InvT-loop
 Inv-loop text at i₀ value₀ i value = DigitsLoop text (drop at text) i value

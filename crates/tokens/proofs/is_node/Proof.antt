@@ -4,9 +4,6 @@ use Rattle.tokens.proofs.TokenLaws.{node-judges, past-judges, node-smal
 use borrow.Author.Needs.{needs}
 use Rattle.tokens.proofs.is_node.Statement.{statement}
 use Rattle.tokens.proofs.is_node.Tie as tie
-use Rattle.tokens.proofs.is_node.Reads as reads
-use Rattle.tokens.proofs.is_node.Lts as lts
-use Rattle.conditions.proofs.is_user.Reads as is-user-reads
 
 cast-is-user : tie.Need-cast-is-user
 cast-is-user c = search needs

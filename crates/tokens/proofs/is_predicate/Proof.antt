@@ -3,8 +3,6 @@ use Rattle.tokens.specs.Contract.{withinTable}
 use Rattle.tokens.proofs.TokenLaws.{table-judges, past-judges, table-small}
 use Rattle.tokens.proofs.is_predicate.Statement.{statement}
 use Rattle.tokens.proofs.is_predicate.Tie as tie
-use Rattle.tokens.proofs.is_predicate.Reads as reads
-use Rattle.tokens.proofs.is_predicate.Lts as lts
 
 returns : tie.Need-returns
 returns c = table-judges (c .before .args .predicates) (c .before .args .value) (omega arith)

@@ -2,8 +2,6 @@ use Rattle.tokens.proofs.TokenLaws.{digit-least}
 use borrow.Author.Needs.{needs}
 use Rattle.tokens.proofs.join.Statement.{statement}
 use Rattle.tokens.proofs.join.Tie as tie
-use Rattle.tokens.proofs.join.Reads as reads
-use Rattle.tokens.proofs.join.Lts as lts
 
 mul-v : tie.Need-mul-v
 mul-v c = search needs

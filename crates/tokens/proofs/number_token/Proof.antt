@@ -6,10 +6,6 @@ use Rattle.tokens.proofs.TokenLaws.{number-none, number-wrong, number-g
 use borrow.Author.Needs.{needs}
 use Rattle.tokens.proofs.number_token.Statement.{statement}
 use Rattle.tokens.proofs.number_token.Tie as tie
-use Rattle.tokens.proofs.number_token.Reads as reads
-use Rattle.tokens.proofs.number_token.Lts as lts
-use Rattle.tokens.proofs.digit_stands.Reads as digit-stands-reads
-use Rattle.tokens.proofs.spaces.Reads as spaces-reads
 
 add-digit-stands : tie.Need-add-digit-stands
 add-digit-stands c = search needs

@@ -4,9 +4,6 @@ use Rattle.tokens.proofs.TokenLaws.{opener-full, opener-free}
 use borrow.Author.Needs.{needs}
 use Rattle.tokens.proofs.opener_token.Statement.{statement}
 use Rattle.tokens.proofs.opener_token.Tie as tie
-use Rattle.tokens.proofs.opener_token.Reads as reads
-use Rattle.tokens.proofs.opener_token.Lts as lts
-use Rattle.tokens.proofs.spaces.Reads as spaces-reads
 
 returns : tie.Need-returns
 returns c = opener-full (c .before .before .args .text .now) (c .before .before .args .at) (c .before .before .args .allowed) (c .before .before .pre) (omega arith)

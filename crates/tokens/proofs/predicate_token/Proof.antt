@@ -4,11 +4,6 @@ use Rattle.tokens.proofs.TokenLaws.{digits-behind}
 use borrow.Author.Needs.{needs}
 use Rattle.tokens.proofs.predicate_token.Statement.{statement}
 use Rattle.tokens.proofs.predicate_token.Tie as tie
-use Rattle.tokens.proofs.predicate_token.Reads as reads
-use Rattle.tokens.proofs.predicate_token.Lts as lts
-use Rattle.tokens.proofs.digits.Reads as digits-reads
-use Rattle.tokens.proofs.is_predicate.Reads as is-predicate-reads
-use Rattle.tokens.proofs.number_token.Reads as number-token-reads
 
 add-digits : tie.Need-add-digits
 add-digits c = search needs

@@ -6,9 +6,6 @@ use borrow.Author.Needs.{needs}
 use Rattle.tokens.proofs.TokenLaws.{SpacesLoop, spaces-more, spaces-done, starts-in}
 use Rattle.tokens.proofs.spaces.Statement.{statement}
 use Rattle.tokens.proofs.spaces.Tie as tie
-use Rattle.tokens.proofs.spaces.Reads as reads
-use Rattle.tokens.proofs.spaces.Lts as lts
-use Rattle.tokens.proofs.stands.Reads as stands-reads
 
 abbrev Inv-loop : tie.InvT-loop
 Inv-loop text at i₀ i = SpacesLoop text at i

@@ -3,8 +3,6 @@ use Rattle.tokens.proofs.TokenLaws.{starts-is, starts-past}
 use borrow.Author.Needs.{needs}
 use Rattle.tokens.proofs.stands.Statement.{statement}
 use Rattle.tokens.proofs.stands.Tie as tie
-use Rattle.tokens.proofs.stands.Reads as reads
-use Rattle.tokens.proofs.stands.Lts as lts
 
 shared-slice-read-result : tie.Need-shared-slice-read-result
 shared-slice-read-result c = search needs

@@ -3,10 +3,6 @@ use Rattle.tokens.proofs.TokenLaws.{when-stops, when-goes-on}
 use borrow.Author.Needs.{needs}
 use Rattle.tokens.proofs.when_token.Statement.{statement}
 use Rattle.tokens.proofs.when_token.Tie as tie
-use Rattle.tokens.proofs.when_token.Reads as reads
-use Rattle.tokens.proofs.when_token.Lts as lts
-use Rattle.tokens.proofs.arrow_token.Reads as arrow-token-reads
-use Rattle.tokens.proofs.node_token.Reads as node-token-reads
 
 node-token-requires : tie.Need-node-token-requires
 node-token-requires c κs = search needs

@@ -4,11 +4,6 @@ use Rattle.memory.proofs.HandLaws.{handed-formula}
 use borrow.Author.Needs.{needs}
 use Rattle.memory.proofs.Record.assert_formula.Statement.{statement}
 use Rattle.memory.proofs.Record.assert_formula.Tie as tie
-use Rattle.memory.proofs.Record.assert_formula.Reads as reads
-use Rattle.memory.proofs.Record.assert_formula.Lts as lts
-use Rattle.formula_access.proofs.assert_formula.Reads as assert-formula-reads
-use Rattle.memory.proofs.Record.fields.Reads as fields-reads
-use Rattle.memory.proofs.formula_result.Reads as formula-result-reads
 
 fields-requires : tie.Need-fields-requires
 fields-requires c κs = search needs
