@@ -1,4 +1,4 @@
-"""Builds the benchmark's own programs: the one over BuDDy, and the one that calls the library."""
+"""Builds the benchmark's own programs: the one over BuDDy, and those that call the library."""
 
 import os
 import subprocess
@@ -11,6 +11,7 @@ TESTS = os.path.join(ROOT, "tests")
 FOLDER = os.path.join(ROOT, "target", "bench")
 SOURCE = os.path.join(HERE, "memcase_buddy.cpp")
 CALLS = os.path.join(HERE, "calls.c")
+TEXTS = os.path.join(HERE, "texts.c")
 ARCHIVE = os.path.join(ROOT, "target", "staticlib", "libcapi.a")
 
 # Static, so that no loading of shared libraries counts as BuDDy's start-up.
@@ -35,12 +36,22 @@ def buddy_program():
     return program
 
 
-def calls_program():
-    """The path of the program that times single calls of the library."""
+def library_program(name, source):
+    """The path of a program that is linked to the library."""
     if not os.path.exists(ARCHIVE):
         sys.exit("%s is not there: rt staticlib capi builds it" % os.path.relpath(ARCHIVE))
     os.makedirs(FOLDER, exist_ok=True)
-    program = os.path.join(FOLDER, "calls")
+    program = os.path.join(FOLDER, name)
     subprocess.run(["gcc", "-O2", "-std=gnu99", "-Wall", "-Wextra", "-I", os.path.join(ROOT, "include"),
-                    "-o", program, CALLS, ARCHIVE], check=True)
+                    "-o", program, source, ARCHIVE], check=True)
     return program
+
+
+def calls_program():
+    """The program that times single calls of the library."""
+    return library_program("calls", CALLS)
+
+
+def texts_program():
+    """The program that times the reading of formulas."""
+    return library_program("texts", TEXTS)

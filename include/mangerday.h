@@ -28,28 +28,32 @@
  *   10  the case file ends early
  *   11  unknown kind of access
  *   12  bytes after the last access
- *   13  text too long for its buffer
+ *   13  text too long for its buffer; formula: the answer slice too short
  *   14  read: port above 3
+ *   15  formula: a text outside the language, a predicate past the table or past 4,294,967,295, or a node
+ *       that 5 would refuse
+ *   16  formula: more than 32 open parentheses, N and arrows around one place
  *
  * A call tests its rows in the order listed for it, and answers the first that it meets: a write meets
  * 8 after its conditions are built, so that a 9 wins; but an assert meets 8 when its entry is needed, so
- * that only a 9 met before it wins; and md_case answers the number of what it meets first in the file,
- * whatever comes later. A refused call, but for md_case, leaves the record, the nodes below the count, the
- * list, the ports, the answer words and the out-word as they were; after 8 or 9 the node words from the
- * count to capacity are 0. An accepted call changes no older node or entry, no word past the new counts,
- * and of the ports nothing but the held word of the port that it reads, or by md_fresh all. Any words may
- * be lent: what is no memory is refused, by row 1, 2 or 3.
+ * that only a 9 met before it wins; md_case answers the number of what it meets first in the file,
+ * whatever comes later; and of 15 and 16 a formula answers the one with the earlier place. A refused call,
+ * but for md_case and a formula that is stopped at one of its accesses, leaves the record, the nodes below
+ * the count, the list, the ports, the answer words and the out-word as they were; after 8 or 9 the node
+ * words from the count to capacity are 0. An accepted call changes no older node or entry, no word past the
+ * new counts, and of the ports nothing but the held word of the port that it reads, or by md_fresh all. Any
+ * words may be lent: what is no memory is refused, by row 1, 2 or 3.
  *
  * Node capacity is the words divided by 3, rounded down, at most 16,384. List capacity is whole
  * entries of 2 + 2n + 2w words, at most 4,096.
  *
  * The entry count is exact, and a list can be planned from the accesses. After calls from md_fresh on, the
  * entries are as many as the accepted writes whose enable may be 1 under some assignment, plus the accepted
- * asserts whose data differs from the look under some assignment with b. The look is the word at the
- * address, as an enabled read before the assert would give it. All else adds none: idle writes, kept
- * asserts, reads, checks, the calls on nodes and what is refused. So a list of that many entries is enough
- * for these accesses, and with one entry less the last that adds one meets 8. In a fresh memory of n = 1 and
- * w = 1, with a the pair of a variable and its Not:
+ * asserts, those that formulas made among them, whose data differs from the look under some assignment with
+ * b. The look is the word at the address, as an enabled read before the assert would give it. All else adds
+ * none: idle writes, kept asserts, reads, checks, the calls on nodes and what is refused. So a list of that
+ * many entries is enough for these accesses, and with one entry less the last that adds one meets 8. In a
+ * fresh memory of n = 1 and w = 1, with a the pair of a variable and its Not:
  *
  *    write   enable 1   1 at 0   one
  *    write   enable a   0 at 1   one: a may be 1
@@ -138,10 +142,56 @@ uint32_t md_check(uint32_t record[MD_RECORD], uint32_t *nodes, size_t nodes_leng
                   size_t list_length, uint32_t b, const uint32_t *address, size_t address_length,
                   const uint32_t *data, size_t data_length);
 
+/* Written formulas. `m3` names predicate 3, counted from 0, of a lent table, and `b5` condition node 5. A
+   number is decimal digits joined to their letter, zeros before it allowed. In the language are
+
+      unit         m number    N unit    ( formula )
+      conjunction  units with & between them
+      formula      a conjunction, or: b number -> formula
+
+   and spaces (byte 32, no other) before, between and after tokens, none inside `m3`, `b5` or `->`. An arrow
+   reaches to the end of its formula: `m0 & (b1 -> m2)` is a formula, `m0 & b1 -> m2` is none. A predicate of
+   the table is 2n words of an address and then 2w words of data; a last one that is not whole is not there.
+
+   The formula is listed in the answer, three words for each predicate in the text: its step, which is the
+   number of N around it, its condition, which is the And of the nodes of all arrows around it, and its
+   number; ordered by step, and among those of one step as in the text. Answer words past them stay as they
+   are. Then the asserts, or checks, are made one after the other in that order, each as md_assert, or
+   md_check, with that condition, address and data would make it on what the last one left, up to the first
+   that is refused.
+
+   Accepted, it answers 0, and both listed and made are the number of predicates in the text. A formula that
+   is stopped answers the number by which its first refused access was refused, and made is how many were
+   made before it: those stand, the record is the one that they left, and the answer stays written. A formula
+   that is refused before its accesses leaves listed and made as they were, so set listed to 0 before the
+   call: after it, 0 means that nothing was made. By 15 and 16 alone place is written: where in the text the
+   fault stands, counted from 0. It is the first byte with which no text of the language could go on, or the
+   length of the text where its end is too early; a wrong number's is that of its letter; too deep a nesting's
+   that of the `(`, the `N` or the `->` that is one too many.
+
+   In a text such as "m0 & b1 -> m2" place is 5, and a tool can show it to whoever wrote the text:
+
+      m0 & b1 -> m2
+           ^
+
+   The conditions are built before any access, one And for each arrow in text order, outermost first; nothing
+   is built before the whole text is read. Meets 1, 2, 3, then 15 or 16, 13, 9 of the conditions, and then
+   what its accesses meet: 5, 6, 9, and by asserts 7 and 8 too. A word of the table meets 5 only in an access
+   that uses it. */
+uint32_t md_assert_formula(uint32_t record[MD_RECORD], uint32_t *nodes, size_t nodes_length, uint32_t *list,
+                           size_t list_length, const uint8_t *text, size_t text_length, const uint32_t *table,
+                           size_t table_length, uint32_t *answer, size_t answer_length, uint64_t *listed,
+                           uint64_t *made, uint64_t *place);
+
+uint32_t md_check_formula(uint32_t record[MD_RECORD], uint32_t *nodes, size_t nodes_length, const uint32_t *list,
+                          size_t list_length, const uint8_t *text, size_t text_length, const uint32_t *table,
+                          size_t table_length, uint32_t *answer, size_t answer_length, uint64_t *listed,
+                          uint64_t *made, uint64_t *place);
+
 /* A case file, run from its first byte to its last, with ports of its own that hold X at first. Accepted:
-   the text is written, count is its length, record the last record. Refused (any row but 3 and 4): count
-   is the number of accesses already printed, node, list and text words are all 0, and the record is as it
-   was. */
+   the text is written, count is its length, record the last record. Refused (any row but 3, 4, 15, 16):
+   count is the number of accesses already printed, node, list and text words are all 0, and the record is
+   as it was. */
 uint32_t md_case(const uint8_t *bytes, size_t bytes_length, uint32_t *nodes, size_t nodes_length, uint32_t *list,
                  size_t list_length, uint8_t *text, size_t text_length, uint32_t record[MD_RECORD], uint64_t *count);
 

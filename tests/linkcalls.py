@@ -1,5 +1,5 @@
 #!/usr/bin/env python3
-"""The nine functions for C, held to the second program: what each returns, and every word of every buffer.
+"""The eleven functions for C, held to the second program: what each returns, and every word of every buffer.
 
     python3 tests/linkcalls.py ARCHIVE [--times K]
 
@@ -19,7 +19,9 @@ import tempfile
 from collections import Counter
 
 import rooms  # noqa: F401
-from calls import (ASSERT, CHECK, EVALUATE, FRESH, IDLE, ITE, NAMES, READ, VARIABLE, WRITE, Call, entry_size, run)
+import randomformulas
+from calls import (ASSERT, ASSERT_FORMULA, CHECK, CHECK_FORMULA, EVALUATE, FORMULAS, FRESH, IDLE, ITE, NAMES, READ, VARIABLE,
+                   WRITE, Call, entry_size, run)
 from randomcalls import (Shape, Words, access, after, any_call, call, damage, memory, no_memory, shape, store, unbegun,
                          user_variables)
 from randomcases import random_bytes
@@ -28,7 +30,8 @@ from reference import left_of, run_case
 # The rows that a function can meet.
 REACHED = {WRITE: {0, 1, 2, 3, 4, 5, 6, 8, 9}, READ: {0, 1, 2, 3, 4, 5, 6, 9, 14}, ASSERT: set(range(10)),
            CHECK: {0, 1, 2, 3, 4, 5, 6, 9}, FRESH: {0, 1, 2}, EVALUATE: {0, 1, 2, 5}, VARIABLE: {0, 1, 2, 5, 9},
-           ITE: {0, 1, 2, 5, 9}}
+           ITE: {0, 1, 2, 5, 9}, ASSERT_FORMULA: {0, 1, 2, 3, 5, 6, 7, 8, 9, 13, 15, 16},
+           CHECK_FORMULA: {0, 1, 2, 3, 5, 6, 9, 13, 15, 16}}
 REACHED_BY_CASES = {0, 1, 2, 5, 6, 7, 8, 9, 10, 11, 12, 13, 14}
 GUARD = 8
 
@@ -94,6 +97,27 @@ def ask(library, one, state, out):
     return number, told.value, tuple(record.words()), nodes.words(), entries.words(), data.words(), ports.words()
 
 
+def ask_formula(library, one, state, out):
+    """The same of a formula; its out-words are three, and those of ports none."""
+    record, nodes, entries = (Lent(words) for words in state[:3])
+    text, table, answer = Lent(one.text, ctypes.c_uint8), Lent(one.table), Lent(one.data)
+    told = [ctypes.c_uint64(out) for _ in range(3)]
+    function = getattr(library, NAMES[one.kind])
+    number = function(record.buffer, *nodes.slice(), *entries.slice(), *text.slice(), *table.slice(), *answer.slice(),
+                      *map(ctypes.byref, told))
+    if bytes(text.words()) != one.text or table.words() != list(one.table):
+        raise Differs("a slice was written that is only read")
+    return (number, tuple(word.value for word in told), tuple(record.words()), nodes.words(), entries.words(), answer.words(),
+            list(state.ports))
+
+
+def told_words(one, left, out):
+    """The out-word of a call, or the three of a formula, where it is `out` before it."""
+    if one.kind in FORMULAS:
+        return tuple(out if word is None else word for word in left.out)
+    return out if left.out is None else left.out
+
+
 def is_idle(one, left):
     return one.kind == WRITE and left.out == IDLE
 
@@ -115,8 +139,8 @@ class Test:
     def compare(self, rng, one, state):
         expected = run(one, *state)
         out = rng.below(1 << 32)
-        wanted = (expected.number, out if expected.out is None else expected.out, tuple(expected.record), *expected[3:])
-        found = ask(self.library, one, state, out)
+        wanted = (expected.number, told_words(one, expected, out), tuple(expected.record), *expected[3:])
+        found = (ask_formula if one.kind in FORMULAS else ask)(self.library, one, state, out)
         names = "number", "out-word", "record", "node words", "list words", "data", "port words"
         for what, right, answer in zip(names, wanted, found):
             if right != answer:
@@ -170,6 +194,40 @@ class Test:
         state = memory(rng, size, nodes, rng.below(7), rng.below(600), rng.below(3 * entry_size(size.n, size.w)))
         for _ in range(4):
             self.step(rng, state, call(rng, state, size.variables), 40)
+
+    def formulas(self, seed):
+        """Formulas on a memory, one after another, as they should be, damaged, and with less room than they need."""
+        rng = Words(seed)
+        size = shape(rng)
+        variables = size.variables + (list(range(min(8, size.n + 2))) if rng.chance(50) else [])
+        state = memory(rng, size, store(rng, variables, rng.between(4, 30)), rng.below(3), rng.below(900),
+                       rng.below(6 * entry_size(size.n, size.w)))
+        for _ in range(4):
+            one = randomformulas.call(rng, state)
+            if rng.chance(45):
+                self.compare(rng, *randomformulas.damage(rng, one, state))
+                continue
+            left = self.compare(rng, one, state)
+            if rng.chance(20):
+                self.little_room(rng, one, state, left)
+            state = after(left)
+
+    def little_room(self, rng, one, state, left):
+        """A formula with room for from none to all of the nodes that it needs, and an answer slice that is short."""
+        for nodes in range(state.record.nodes, left.record.nodes + 1, 1 + (left.record.nodes - state.record.nodes) // 12):
+            self.compare(rng, one, state._replace(nodes=state.nodes[:3 * nodes + rng.below(3)]))
+        if left.out.listed:
+            self.compare(rng, one._replace(data=one.data[:3 * left.out.listed - 1]), state)
+
+    def long_formula(self, seed, size):
+        """A formula of many predicates on a small memory, as it should be and damaged."""
+        rng = Words(seed)
+        shaped = Shape(1, 1, [8, 9])
+        state = memory(rng, shaped, store(rng, shaped.variables, 8), 0, 600, 120)
+        one = randomformulas.call(rng, state, size)
+        self.compare(rng, one, state)
+        for _ in range(3):
+            self.compare(rng, one._replace(text=randomformulas.damaged(rng, one.text)), state)
 
     def any_words(self, seed):
         """Any words at all, and memories with any call."""
@@ -252,6 +310,10 @@ def all_tests(test, times):
         test.large_list(400000 + seed, entries)
     for seed in range(1800 * times):
         test.case(500000 + seed)
+    for seed in range(900 * times):
+        test.formulas(600000 + seed)
+    for seed in range(20 * times):
+        test.long_formula(700000 + seed, 10 * (1 + seed % 20))
 
 
 def report(test):
@@ -260,7 +322,7 @@ def report(test):
     for kind, rows in [*REACHED.items(), ("case", REACHED_BY_CASES)]:
         found = {row: many for (one, row), many in test.met.items() if one == kind}
         name = NAMES.get(kind, kind)
-        print("%-9s %s" % (name, " ".join("%d:%d" % item for item in sorted(found.items()))))
+        print("%-14s %s" % (name, " ".join("%d:%d" % item for item in sorted(found.items()))))
         if set(found) != rows:
             print("linkcalls: %s met the rows %s, not %s: other seeds are needed" % (name, sorted(found), sorted(rows)))
             status = 1

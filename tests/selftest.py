@@ -5,8 +5,9 @@
 
 They hold the reference to the paper's file, rulings and small inputs, to all plain
 runs of small cases, its count of entries to its list and to one found bit by bit, its
-node searches to ones that go from node to node and to sums worked out by hand, and all to
-wrong programs, each of which the cases must find out.
+node searches to ones that go from node to node and to sums worked out by hand, its reader of
+formulas to the language as its clauses define it, and all to wrong programs, each of which
+the cases must find out.
 """
 
 import functools
@@ -24,15 +25,19 @@ import casetext
 import conditioncalls
 import derivedcases
 import entrycount
+import formulacalls
+import formulas
 import memorycalls
 import plain
 import randomcalls
 import randomcases
+import randomformulas
 import reference
 import rowcases
 import storedcases
 import tables
 import wrongcounts
+import wrongformulas
 import wrongreads
 import wrongsearches
 import wrongwrites
@@ -511,6 +516,183 @@ class NodeSearches(unittest.TestCase):
     def test_text(self):
         self.assertEqual(reference.searches_text(ruling_2(12)),
                          "searches 5 compared 5\npast g and h: searches 4 compared 3\n")
+
+
+# The language of formulas by its clauses: texts put together from the parts, and what such texts begin with.
+
+CLAUSES = {
+    "formula": [["conjunction"], ["b0", "->", "formula"]],
+    "conjunction": [["unit"], ["unit", "&", "conjunction"]],
+    "unit": [["m0"], ["N", "unit"], ["(", "formula", ")"]],
+}
+
+
+def token_texts(token, length):
+    """The texts of a token up to a length, with spaces after it; a number may have any digits, here all 0."""
+    words = [token + "0" * more for more in range(length)] if token[-1] == "0" else [token]
+    return {(word + " " * spaces)[:length + 1] for word in words for spaces in range(length)}
+
+
+def language(length):
+    """The texts of the language up to a length, and those with which a text of it begins."""
+    whole = {token: {text for text in token_texts(token, length) if len(text) <= length}
+             for clauses in CLAUSES.values() for clause in clauses for token in clause if token not in CLAUSES}
+    begun = {token: {text[:many] for text in token_texts(token, length) for many in range(length + 1)} for token in whole}
+    for part in CLAUSES:
+        whole[part], begun[part] = set(), set()
+    size = None
+    while size != sum(map(len, [*whole.values(), *begun.values()])):
+        size = sum(map(len, [*whole.values(), *begun.values()]))
+        for part, clauses in CLAUSES.items():
+            for clause in clauses:
+                texts = {""}
+                for next_part in clause:
+                    begun[part] |= joined_texts(texts, begun[next_part], length)
+                    texts = joined_texts(texts, whole[next_part], length)
+                whole[part] |= texts
+    spaces = {" " * many for many in range(length + 1)}
+    return joined_texts(spaces, whole["formula"], length), spaces | joined_texts(spaces, begun["formula"], length)
+
+
+def joined_texts(firsts, seconds, length):
+    return {first + second for first in firsts for second in seconds if len(first) + len(second) <= length}
+
+
+def any_number(_letter, _number):
+    return True
+
+
+def faults(at, byte):
+    """The place of the fault of the next byte, or of the end; None where there is none."""
+    try:
+        formulas.end(at, any_number) if byte is None else formulas.step(at, byte, any_number)
+        return None
+    except formulas.Fault as fault:
+        return fault.number, fault.place
+
+
+def tree_reading(text, right):
+    """What a text lists, each with the nodes around it, or its fault."""
+    try:
+        reading = formulas.read(text, right)
+        return [(one.step, formulas.enclosing(reading, one.arrow), one.predicate) for one in reading.named]
+    except formulas.Fault as fault:
+        return fault.number, fault.place
+
+
+def small_numbers(letter, number):
+    return number < (3 if letter == "m" else 5)
+
+
+def group_output(group):
+    """What a group of the stored formulas prints, or what is said where one is not as it was meant."""
+    try:
+        return formulacalls.script([group]).output()
+    except AssertionError as error:
+        return str(error)
+
+
+def holds(state, node, assignment):
+    return calls.value(randomcalls.standard(state), node, assignment)
+
+
+class Formulas(unittest.TestCase):
+    """The reader, which goes by a table, against the language as its clauses define it and against formulas that
+    were written together with what they list; and the calls."""
+
+    def test_every_short_text(self):
+        """Each text that begins one of the language, and each letter after it: the place of the fault is the first
+        byte with which no text goes on, or the end."""
+        length = 6
+        whole, begun = language(length)
+        waiting, found = [("", formulas.begin())], Counter()
+        while waiting:
+            text, at = waiting.pop()
+            self.assertEqual(faults(at, None), None if text in whole else (15, len(text)), text)
+            found[text in whole] += 1
+            for letter in "mbN&()-> 0x" if len(text) < length else "":
+                goes_on = text + letter in begun
+                self.assertEqual(faults(at, ord(letter)), None if goes_on else (15, len(text)), text + letter)
+                if goes_on:
+                    waiting.append((text + letter, formulas.step(at, ord(letter), any_number)))
+        self.assertEqual(found[True], len(whole))
+        self.assertEqual(sum(found.values()), len(begun))
+        self.assertGreater(len(whole), 100)
+
+    def test_every_byte(self):
+        """After each of some beginnings, every byte that is no letter of the language is a fault."""
+        for text in (b"", b"m0", b"m0 ", b"b1", b"b1 -> ", b"N", b"(m0 & ", b"m", b"b"):
+            for byte in set(range(256)) - set(b"mbN&()-> 0123456789"):
+                self.assertEqual(tree_reading(text + bytes([byte]), any_number), (15, len(text)))
+        for digit in b"0123456789":
+            self.assertEqual(tree_reading(b"m" + bytes([digit]), any_number), [(0, [], digit - 48)])
+
+    def test_written_formulas(self):
+        """What was written is read; a wrong number, or one opener too many, is refused at the first such place."""
+        found = Counter()
+        for seed in range(1500):
+            rng = randomcalls.Words(seed)
+            predicates = rng.choice([range(3), range(4), [0, 2 ** 32, 10 ** 30]])
+            written = randomformulas.formula(rng, predicates, rng.choice([range(5), range(6)]))
+            fault = randomformulas.first_fault(written, small_numbers)
+            self.assertEqual(tree_reading(written.text, small_numbers), fault or written.named, written.text)
+            found[fault and fault[0]] += 1
+        self.assertGreater(min(found[None], found[15], found[16]), 40)
+
+    def test_calls(self):
+        """A triple's condition holds where the nodes of all arrows around it do; the steps rise; a formula that is
+        stopped has made the accesses that it would make without the rest."""
+        rows = Counter()
+        for seed in range(400):
+            rng = randomcalls.Words(seed)
+            size = randomcalls.shape(rng)._replace(n=rng.between(1, 3))
+            state = randomcalls.memory(rng, size, randomcalls.store(rng, size.variables, 10), 1, rng.choice([30, 600]), 80)
+            one = randomformulas.call(rng, state)
+            if rng.chance(50):
+                one = randomformulas.damage_call(rng, one, state)
+            left = calls.run(one, *state)
+            rows[left.number] += 1
+            if left.out.listed is None:
+                self.assertEqual((left.record, left.list, left.data), (state.record, state.list, list(one.data)))
+                continue
+            self.answer(rng, one, left)
+            if left.number:
+                self.assertLess(left.out.made, left.out.listed)
+            else:
+                self.assertEqual(left.out.made, left.out.listed)
+        self.assertLessEqual({0, 5, 6, 9, 13, 15, 16}, set(rows))
+
+    def answer(self, rng, one, left):
+        """The words of an answer against the text."""
+        reading = formulas.read(one.text, any_number)
+        many = left.out.listed
+        self.assertEqual(many, len(reading.named))
+        self.assertEqual(left.data[3 * many:], one.data[3 * many:])
+        steps = left.data[0:3 * many:3]
+        self.assertEqual(steps, sorted(steps))
+        expected = [named for step in range(33) for named in reading.named if named.step == step]
+        self.assertEqual(left.data[2:3 * many:3], [named.predicate for named in expected])
+        after = randomcalls.after(left)
+        for place, named in enumerate(expected):
+            assignment = rng.next()
+            nodes = formulas.enclosing(reading, named.arrow)
+            self.assertEqual(holds(after, left.data[3 * place + 1], assignment),
+                             int(all(holds(after, node, assignment) for node in nodes)))
+
+    def test_wrong_formulas_are_found(self):
+        right = {group: group_output(group) for group in formulacalls.SMALL}
+        for place, name, wrong in wrongformulas.WRONG_FORMULAS:
+            with planted(place, name, wrong):
+                self.assertTrue(any(group_output(group) != right[group] for group in formulacalls.SMALL), wrong.__name__)
+
+    def test_every_row_is_stored(self):
+        rows = {kind: set() for kind in calls.FORMULAS}
+        script = formulacalls.script(formulacalls.SMALL)
+        for name, line in zip(script.names, script.lines):
+            kind = calls.ASSERT_FORMULA if name.endswith("assert_formula") else calls.CHECK_FORMULA
+            rows[kind].add(int(line.split()[2]))
+        self.assertEqual(rows[calls.ASSERT_FORMULA], {0, 1, 2, 3, 5, 6, 7, 8, 9, 13, 15, 16})
+        self.assertEqual(rows[calls.CHECK_FORMULA], {0, 1, 2, 3, 5, 6, 9, 13, 15, 16})
 
 
 # Wrong programs: a class, the name of a function of it, and the wrong function, which

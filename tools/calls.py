@@ -2,13 +2,15 @@
 
 A call is given its record, node words, list and port words as they are, whatever stands in
 them, and answers a `Left`: the number of the row that refuses it or 0, its out-word (None where
-it has none to write), and all that it leaves, the buffers that it does not change among them.
-Each access is built in the paper's order, no step left out, so that nodes are numbered and
-counted as the paper counts them and refusal 9 comes where it must.  Names are the paper's (01).
+it has none to write; of a formula three, a `Told`), and all that it leaves, the buffers that it
+does not change among them.  Each access is built in the paper's order, no step left out, so that
+nodes are numbered and counted as the paper counts them and refusal 9 comes where it must.  Names
+are the paper's (01).
 """
 
 from collections import namedtuple
 
+from formulas import LAST_NUMBER, Fault, in_order, read
 from tables import TERMINALS, USER_VARIABLE, VARIABLES, Conditions, Refused, is_standard, node_capacity
 
 ENTRY_LIMIT = 4096
@@ -21,20 +23,27 @@ Record = namedtuple("Record", "n w nodes entries assert_condition check_conditio
 Entry = namedtuple("Entry", "h s address data")
 
 # The accesses, numbered as in a case file, and the other calls.
-WRITE, READ, ASSERT, CHECK, FRESH, EVALUATE, VARIABLE, ITE = range(1, 9)
+WRITE, READ, ASSERT, CHECK, FRESH, EVALUATE, VARIABLE, ITE, ASSERT_FORMULA, CHECK_FORMULA = range(1, 11)
 NAMES = {WRITE: "write", READ: "read", ASSERT: "assert", CHECK: "check", FRESH: "fresh", EVALUATE: "evaluate",
-         VARIABLE: "variable", ITE: "ite"}
+         VARIABLE: "variable", ITE: "ite", ASSERT_FORMULA: "assert_formula", CHECK_FORMULA: "check_formula"}
+
+# The calls of written formulas, each with the access that it makes.
+FORMULAS = {ASSERT_FORMULA: ASSERT, CHECK_FORMULA: CHECK}
 
 # The out-word of a write that is idle; that of one that is entered is its place.
 IDLE = (1 << 32) - 1
 
 # A call's arguments: `control` is the enable's words, or b alone; `other` is what is no slice
 # in the four other calls: n and w; a node and an assignment; a variable; f, g and h.  `port` is
-# a read's.
-Call = namedtuple("Call", "kind control address data other port", defaults=((), (), (), (), 0))
+# a read's, `text` and `table` are a formula's bytes and its table of predicates.
+Call = namedtuple("Call", "kind control address data other port text table", defaults=((), (), (), (), 0, b"", ()))
 
-# What a call answers and leaves; `data` are the words of a read's answer, or the data as lent.
+# What a call answers and leaves; `data` are the words of a read's or a formula's answer, or the data as lent.
 Left = namedtuple("Left", "number out record nodes list data ports")
+
+# What a formula tells: how many predicates it lists, how many accesses were made, and the place of a fault in the
+# text; None where it is not told.
+Told = namedtuple("Told", "listed made place")
 
 
 def in_range(n, w):
@@ -168,6 +177,19 @@ def row_5(nodes, words):
     return any(word >= len(nodes) or nodes[word][0] < USER_VARIABLE for word in set(words))
 
 
+def entry_words(record, entries):
+    """The list words of the entries."""
+    return entries[:record.entries * entry_size(record.n, record.w)]
+
+
+def test_list(record, nodes, entries):
+    """Row 3, but for held words."""
+    if record.entries > list_capacity(record.n, record.w, len(entries)):
+        raise Refused(3)
+    if row_5(nodes, entry_words(record, entries) + [record.assert_condition, record.check_condition]):
+        raise Refused(3)
+
+
 def store_nodes(record, words):
     """Row 2, and the store's nodes, three words each."""
     count = record.nodes
@@ -225,7 +247,7 @@ class Access:
         return [*self.call.control, *self.call.address, *self.given]
 
     def used_entries(self):
-        return self.entries[:self.record.entries * entry_size(self.record.n, self.record.w)]
+        return entry_words(self.record, self.entries)
 
     def held(self, port):
         """A port's held word, as its node numbers."""
@@ -233,12 +255,9 @@ class Access:
 
     def test(self):
         """Rows 3, 4, 14 and 5."""
-        n, w, _, entries, *conditions = self.record
+        n, w = self.record[:2]
         call = self.call
-        if entries > list_capacity(n, w, len(self.entries)):
-            raise Refused(3)
-        if row_5(self.nodes, self.used_entries() + conditions):
-            raise Refused(3)
+        test_list(self.record, self.nodes, self.entries)
         if call.kind == READ and any(row_5(self.nodes, self.held(port)) for port in range(PORTS)):
             raise Refused(3)
         if len(call.address) != 2 * n or len(call.data) != 2 * w or self.enabled and len(call.control) != 2:
@@ -344,6 +363,75 @@ def node_call(call, record, nodes, node_words):
     return conditions.numbers[made], record._replace(nodes=conditions.count()), conditions.words(record.nodes)
 
 
+# Written formulas.
+
+def predicate_size(record):
+    return 2 * record.n + 2 * record.w
+
+
+def is_right(record, nodes, table, letter, number):
+    """Whether a formula may name this predicate (`m`) or node (`b`)."""
+    if letter == "b":
+        return not row_5(nodes, [number])
+    return number < len(table) // predicate_size(record) and number <= LAST_NUMBER
+
+
+def test_answer(listed, answer):
+    """Row 13: three words for each."""
+    if 3 * listed > len(answer):
+        raise Refused(13)
+
+
+def arrow_conditions(reading, nodes, capacity):
+    """The condition of each arrow, as its node, with what stands around it, and the conditions that are then there."""
+    conditions = tables_of(nodes, [arrow.node for arrow in reading.arrows], 0, capacity)
+    found = []
+    for arrow in reading.arrows:
+        outer = conditions.true if arrow.around is None else found[arrow.around]
+        found.append(conditions.and_(outer, conditions.tables[arrow.node]))
+    return [conditions.numbers[table] for table in found], conditions
+
+
+def triples(reading, built):
+    """The answer's triples: step, condition, predicate."""
+    return [(one.step, 1 if one.arrow is None else built[one.arrow], one.predicate) for one in in_order(reading.named)]
+
+
+def predicate_access(kind, record, table, condition, predicate):
+    """The access by a predicate of the table."""
+    size = predicate_size(record)
+    words = list(table[predicate * size:(predicate + 1) * size])
+    return Call(FORMULAS[kind], [condition], words[:2 * record.n], words[2 * record.n:])
+
+
+def make_accesses(call, listed, left):
+    """Accesses one after the other, up to the first that is refused: what is left, and how many were made."""
+    made = 0
+    for _, condition, predicate in listed:
+        one = predicate_access(call.kind, left.record, call.table, condition, predicate)
+        left = run(one, left.record, left.nodes, left.list, left.ports)
+        if left.number:
+            break
+        made += 1
+    return left, made
+
+
+def formula(call, record, nodes, words, entries, ports):
+    """What a formula leaves that is read and whose conditions are built."""
+    test_list(record, nodes, entries)
+    reading = read(call.text, lambda letter, number: is_right(record, nodes, call.table, letter, number))
+    test_answer(len(reading.named), call.data)
+    built, conditions = arrow_conditions(reading, nodes, node_capacity(len(words)))
+    listed = triples(reading, built)
+    answer = halves(listed)
+    new = conditions.words(record.nodes)
+    start = 3 * record.nodes
+    left = Left(0, None, record._replace(nodes=conditions.count()), words[:start] + new + words[start + len(new):],
+                entries, [], ports)
+    left, made = make_accesses(call, listed, left)
+    return left._replace(out=Told(len(listed), made, None), data=answer + list(call.data[len(answer):]))
+
+
 def fresh(call, node_words):
     n, w = call.other
     if not in_range(n, w):
@@ -353,8 +441,15 @@ def fresh(call, node_words):
     return Record(n, w, 2, 0, 1, 1)
 
 
+def refused_out(call, refused):
+    """The out-word of a refused call: a formula tells the place of a fault."""
+    if call.kind not in FORMULAS:
+        return None
+    return Told(None, None, refused.place if isinstance(refused, Fault) else None)
+
+
 def accepted(call, record, words, entries, ports):
-    """What a call leaves that no row refuses."""
+    """What a call leaves that no row refuses; of a formula, no row but those of its accesses."""
     data = list(call.data)
     if call.kind == FRESH:
         after = fresh(call, len(words))
@@ -362,6 +457,8 @@ def accepted(call, record, words, entries, ports):
     if not in_range(record.n, record.w):
         raise Refused(1)
     nodes = store_nodes(record, words)
+    if call.kind in FORMULAS:
+        return formula(call, record, nodes, words, entries, ports)
     if call.kind in (EVALUATE, VARIABLE, ITE):
         out, after, new = node_call(call, record, nodes, len(words))
     else:
@@ -379,4 +476,4 @@ def run(call, record, words, entries, ports):
         if refused.number in (8, 9):
             start, end = 3 * record.nodes, 3 * node_capacity(len(words))
             words[start:end] = [0] * (end - start)
-        return Left(refused.number, None, record, words, entries, list(call.data), ports)
+        return Left(refused.number, refused_out(call, refused), record, words, entries, list(call.data), ports)

@@ -1,9 +1,10 @@
 /*
  * The paper's example, once by the calls and once as a case file. Both texts must be the paper's, and
  * both must leave the same record, node words and list words; then a read that is not enabled must give
- * again what its port holds, and a write that is never enabled must be idle and change nothing. Last, the
- * header's example of counted entries must need exactly as many as it says. Else the program says what
- * differs and its status is 1.
+ * again what its port holds, and a write that is never enabled must be idle and change nothing. The header's
+ * example of counted entries must need exactly as many as it says. Last, a written formula must be listed
+ * and made, one outside the language refused at its place, and one that the list has no space for stopped.
+ * Else the program says what differs and its status is 1.
  */
 #include <stdio.h>
 #include <string.h>
@@ -217,9 +218,91 @@ static void hold_count(struct memory *m)
     }
 }
 
+/* What a formula answers and lists. */
+struct told {
+    uint32_t row;
+    uint64_t listed, made, place;
+    uint32_t answer[6];
+};
+
+enum { UNTOLD = 77 };
+
+/* The text as asserts or as checks of predicates 0, which is 1 at 0, and 1, which is 0 at 1. */
+static struct told formula(struct memory *m, int asserts, size_t list_words, const char *text)
+{
+    static const uint32_t table[8] = {0, 1, 1, 0, 1, 0, 0, 1};
+    struct told t = {0, UNTOLD, UNTOLD, UNTOLD, {UNTOLD, UNTOLD, UNTOLD, UNTOLD, UNTOLD, UNTOLD}};
+    const uint8_t *bytes = (const uint8_t *)text;
+    size_t length = strlen(text);
+    if (asserts)
+        t.row = md_assert_formula(m->record, m->nodes, NODE_WORDS, m->list, list_words, bytes, length, table, 8, t.answer, 6,
+                                  &t.listed, &t.made, &t.place);
+    else
+        t.row = md_check_formula(m->record, m->nodes, NODE_WORDS, m->list, list_words, bytes, length, table, 8, t.answer, 6,
+                                 &t.listed, &t.made, &t.place);
+    return t;
+}
+
+static void hold_told(const char *text, struct told t, uint32_t row, uint64_t listed, uint64_t made, uint64_t place)
+{
+    if (t.row != row || t.listed != listed || t.made != made || t.place != place) {
+        printf("`%s`: row %u, %u listed, %u made, place %u\n", text, (unsigned)t.row, (unsigned)t.listed, (unsigned)t.made,
+               (unsigned)t.place);
+        failures++;
+    }
+}
+
+/* A memory with variable 8 as node 2, and no entry. */
+static void begin(struct memory *m)
+{
+    uint32_t a = 0;
+    accept("fresh", md_fresh(m->record, 1, 1, m->nodes, NODE_WORDS, m->ports));
+    accept("variable", md_variable(m->record, m->nodes, NODE_WORDS, 8, &a));
+}
+
+static void hold_formulas(struct memory *m)
+{
+    static const char right[] = "b2 -> m0 & N m1", outside[] = "m0 & b1 -> m1", both[] = "N m1 & m0";
+    static const uint32_t triples[6] = {0, 2, 0, 1, 2, 1}, ordered[6] = {0, 1, 0, 1, 1, 1};
+    static const uint32_t unwritten[6] = {UNTOLD, UNTOLD, UNTOLD, UNTOLD, UNTOLD, UNTOLD};
+    struct memory before;
+    struct told t;
+
+    begin(m);
+    t = formula(m, 1, LIST_WORDS, right);
+    hold_told(right, t, 0, 2, 2, UNTOLD);
+    hold_words("what the formula lists", t.answer, triples, 6);
+    t = formula(m, 0, LIST_WORDS, right);
+    hold_told(right, t, 0, 2, 2, UNTOLD);
+    if (m->record[MD_ENTRIES] != 2 || m->record[MD_CHECKED] != 1) {
+        printf("`%s`: %u entries, check condition %u\n", right, (unsigned)m->record[MD_ENTRIES],
+               (unsigned)m->record[MD_CHECKED]);
+        failures++;
+    }
+
+    /* A fault leaves the memory and the answer as they were, and says where it stands. */
+    before = *m;
+    t = formula(m, 1, LIST_WORDS, outside);
+    hold_told(outside, t, 15, UNTOLD, UNTOLD, 5);
+    hold_words("the answer after a fault", t.answer, unwritten, 6);
+    hold_words("record after a fault", m->record, before.record, MD_RECORD);
+    hold_words("nodes after a fault", m->nodes, before.nodes, NODE_WORDS);
+    hold_words("list after a fault", m->list, before.list, LIST_WORDS);
+
+    /* In a list of one entry the first assert is made, and the second has no space. */
+    begin(m);
+    t = formula(m, 1, ENTRY_WORDS, both);
+    hold_told(both, t, 8, 2, 1, UNTOLD);
+    hold_words("what the stopped formula lists", t.answer, ordered, 6);
+    if (m->record[MD_ENTRIES] != 1) {
+        printf("`%s`: %u entries\n", both, (unsigned)m->record[MD_ENTRIES]);
+        failures++;
+    }
+}
+
 int main(void)
 {
-    static struct memory calls, whole, budget;
+    static struct memory calls, whole, budget, written;
 
     by_calls(&calls);
     by_case(&whole);
@@ -233,6 +316,7 @@ int main(void)
     hold_port(&calls);
     hold_idle(&calls);
     hold_count(&budget);
+    hold_formulas(&written);
 
     printf("%.*s", (int)whole.length, whole.text);
     return failures != 0;

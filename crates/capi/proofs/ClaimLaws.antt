@@ -1,7 +1,7 @@
 -- 0 is accepted, and what a refused call leaves.
 use mathlib.Core.Path.{_≡_, refl, sym, ap, _∙_}
 use mathlib.Core.Bool.{false, true≢false}
-use mathlib.Core.List.{List, [], _∷_}
+use mathlib.Core.List.{List, []}
 use native.Mathlib.Omega.{arith}
 use Prim.Native.Nat.{ℕ, suc}
 use lib.ListN.{length}
@@ -12,20 +12,10 @@ use Rattle.model.proofs.FactLaws.{write-facts}
 use Rattle.model.proofs.Demand2.{acts, idle-or-entered}
 use Rattle.model.proofs.IdleLaws.{idle-exactly}
 use Rattle.model.proofs.FrameLaws.{refusal-leaves, refusal-number, fresh-leaves}
-use Rattle.record_words.specs.Words.{recordIn, wordsOf, stateIn}
+use Rattle.record_words.specs.Words.{recordIn, stateIn}
+use Rattle.record_words.proofs.WordsLaws.{words-back}
 use Rattle.capi.specs.Contract.{numberOf, outOf, left, leftBy, called, freshBy, freshed}
 use Rattle.capi.specs.Claims.{ZeroAccepts, RefusedLeaves, IdlePlace, FreshRefused}
-
--- six words are the words of the record that they are
-pub words-back : (r : List ℕ) → length r ≡ 6 → wordsOf (recordIn r) ≡ r
-words-back (x0 ∷ x1 ∷ x2 ∷ x3 ∷ x4 ∷ x5 ∷ []) p = refl
-words-back [] p = absurd (omega (arith, p))
-words-back (x0 ∷ []) p = absurd (omega (arith, p))
-words-back (x0 ∷ x1 ∷ []) p = absurd (omega (arith, p))
-words-back (x0 ∷ x1 ∷ x2 ∷ []) p = absurd (omega (arith, p))
-words-back (x0 ∷ x1 ∷ x2 ∷ x3 ∷ []) p = absurd (omega (arith, p))
-words-back (x0 ∷ x1 ∷ x2 ∷ x3 ∷ x4 ∷ []) p = absurd (omega (arith, p))
-words-back (x0 ∷ x1 ∷ x2 ∷ x3 ∷ x4 ∷ x5 ∷ x6 ∷ l) p = absurd (omega (arith, p))
 
 zero-goes : (c : Call) (s : State) (x : Answer) → step c s .answer ≡ x → numberOf x ≡ 0 → isRefused x ≡ false
 unfolding RefusalNumber

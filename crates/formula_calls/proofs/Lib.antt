@@ -8,5 +8,6 @@ pub mod RowLaws
 pub mod StandLaws
 pub mod WordLaws
 pub mod ListLaws
+pub mod NumberLaws
 pub mod PortLaws
 pub mod ExampleLaws

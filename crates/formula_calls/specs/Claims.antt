@@ -129,3 +129,13 @@ FormulaPortsUnseen =
     (k : Making) (text table out : List ℕ) (s : State) (ps : List ℕ)
     → formulaStep k text table out (withPorts s ps)
     ≡ record { answer = formulaStep k text table out s .answer; after = withPorts (formulaStep k text table out s .after) ps; words = formulaStep k text table out s .words }
+
+-- the numbers that are answered: none is 0
+abbrev pub Numbered : FormulaAnswer → Type 0
+Numbered (faulty k p) = (k ≡ 15) ⊎ (k ≡ 16)
+Numbered (refusedBy k) = ((1 ≤ k) × (k ≤ 3)) ⊎ ((k ≡ 9) ⊎ (k ≡ 13))
+Numbered (stopped k n m) = 1 ≤ k
+Numbered (allMade n) = Unit {0}
+
+unfoldable pub FormulaNumbers : Type 0
+FormulaNumbers = (k : Making) (text table out : List ℕ) (s : State) → Numbered (formulaStep k text table out s .answer)

@@ -1,1 +1,2 @@
 pub mod FormulaLaws
+pub mod ClaimLaws

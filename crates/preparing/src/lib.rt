@@ -43,7 +43,7 @@ fn list_steps(
     }
 }
 
-// Rows 15, 16, 13 and 9 of the conditions; then the triples are written.
+// Rows 15, 16, 13 and 9 of the conditions; then the triples are written. The walk that builds is one of step 33, which no predicate has: it writes nothing.
 pub fn prepare(
     r: Fields,
     words: &mut [u32],

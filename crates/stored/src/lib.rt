@@ -10,6 +10,8 @@ ghost use Prim.Native.Nat.{_≤_};
 
 pub type Words = [u32; 49160];
 
+pub type Bytes = [u8; 65600];
+
 // What the numbers say is said by the program that reads them; a kind of 0 is the end of the input.
 pub struct Item {
     pub kind: u32,
@@ -61,6 +63,27 @@ pub fn put(x: Item, to: &mut [u32]) {
     let mut left = x.c;
     while left > 0 {
         put_word(to, at, word);
+        at = std::num::wrapping_add_u32(at, x.d);
+        word = std::num::wrapping_add_u32(word, x.f);
+        left -= 1;
+    }
+}
+
+// Puts a number's low byte at a place, if there is one.
+fn put_byte(to: &mut [u8], at: u32, number: u32) {
+    let place = at as usize;
+    if place < to.len() {
+        to[place] = (number % 256) as u8;
+    }
+}
+
+// As `put`, of bytes: each is the low byte of such a word.
+pub fn put_bytes(x: Item, to: &mut [u8]) {
+    let mut at = x.b;
+    let mut word = x.e;
+    let mut left = x.c;
+    while left > 0 {
+        put_byte(to, at, word);
         at = std::num::wrapping_add_u32(at, x.d);
         word = std::num::wrapping_add_u32(word, x.f);
         left -= 1;

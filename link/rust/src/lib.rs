@@ -9,7 +9,8 @@
 //!
 //! Any words may be lent. A call tests its rows of the panel's table in the order listed for it. One that
 //! is turned down answers [`Refused`] with the row's number and leaves record, nodes below the count,
-//! list, ports and answer words as they were.
+//! list, ports and answer words as they were; a formula that is stopped at one of its accesses leaves those
+//! that were made before it.
 //!
 //! ```
 //! use mangerday::{Ports, Record, Written};
@@ -34,6 +35,27 @@
 //! # Ok::<(), mangerday::Refused>(())
 //! ```
 //!
+//! A formula is written as a text over a table of predicates, each an address and a data word: here `m0`
+//! is 1 at location 0 and `m1` 0 at location 1, and `b2` is the node of variable 8. The answer lists its
+//! predicates, three words each: step, condition, predicate.
+//!
+//! ```
+//! use mangerday::{FormulaRefused, Ports, Record};
+//!
+//! let (mut nodes, mut list, mut ports) = ([0; 96], [0; 24], Ports::default());
+//! let mut memory = Record::fresh(1, 1, &mut nodes, &mut ports)?;
+//! assert_eq!(memory.variable(&mut nodes, 8)?, 2);
+//! let (table, mut answer) = ([0, 1, 1, 0, 1, 0, 0, 1], [0; 6]);
+//! let listed = memory.assert_formula(&mut nodes, &mut list, b"b2 -> m0 & N m1", &table, &mut answer)?;
+//! assert_eq!((listed, answer), (2, [0, 2, 0, 1, 2, 1]));
+//! memory.check_formula(&mut nodes, &list, b"b2 -> m0 & m1", &table, &mut answer)?;
+//! assert_eq!(memory.checked, 1);
+//! // An arrow does not stand inside a conjunction: the fault is at the `b`.
+//! let refused = memory.check_formula(&mut nodes, &list, b"m0 & b2 -> m1", &table, &mut answer);
+//! assert_eq!(refused, Err(FormulaRefused::Text { row: 15, place: 5 }));
+//! # Ok::<(), Box<dyn std::error::Error>>(())
+//! ```
+//!
 //! What is lent to a call cannot overlap, since Rust refuses it:
 //!
 //! ```compile_fail,E0499
@@ -44,9 +66,9 @@
 //!
 //! The entry count is exact, and a list can be planned from the accesses: after calls from `fresh` on, the
 //! entries are as many as the accepted writes whose enable may be 1 under some assignment, plus the
-//! accepted asserts whose data differs from the look under some assignment with `b`. A list of that many
-//! entries, each 2 + 2n + 2w words, is enough for these accesses, and with one entry less the last that adds
-//! one meets 8.
+//! accepted asserts, those that formulas made among them, whose data differs from the look under some
+//! assignment with `b`. A list of that many entries, each 2 + 2n + 2w words, is enough for these accesses, and
+//! with one entry less the last that adds one meets 8.
 //!
 //! A call needs up to [`STACK`] bytes of stack and no heap; nothing is kept between calls.
 
@@ -85,9 +107,22 @@ impl Default for Ports {
     }
 }
 
-/// A refusal: the number of its row in the panel's table, 1 to 14.
+/// A refusal: the number of its row in the panel's table, 1 to 16.
 #[derive(Clone, Copy, Debug, PartialEq, Eq, Hash)]
 pub struct Refused(pub u32);
+
+/// A refused formula.
+#[derive(Clone, Copy, Debug, PartialEq, Eq, Hash)]
+pub enum FormulaRefused {
+    /// Rows 1, 2, 3, 13 and 9, before any access: record, list and answer words are as they were.
+    Whole(Refused),
+    /// Rows 15 and 16, and where in the text the fault stands, counted from 0: record, nodes, list and answer
+    /// words are as they were.
+    Text { row: u32, place: usize },
+    /// The row of the first access that was refused; `listed` predicates were listed in the answer, and the
+    /// accesses of the first `made` of them stand.
+    Stopped { row: u32, listed: usize, made: usize },
+}
 
 /// A refused case: the row's number, and how many accesses were printed before.
 #[derive(Clone, Copy, Debug, PartialEq, Eq, Hash)]
@@ -131,7 +166,18 @@ impl fmt::Display for CaseRefused {
     }
 }
 
+impl fmt::Display for FormulaRefused {
+    fn fmt(&self, f: &mut fmt::Formatter<'_>) -> fmt::Result {
+        match self {
+            FormulaRefused::Whole(refused) => refused.fmt(f),
+            FormulaRefused::Text { row, place } => write!(f, "refused {row} at {place}"),
+            FormulaRefused::Stopped { row, made, .. } => write!(f, "refused {row} after {made}"),
+        }
+    }
+}
+
 impl std::error::Error for Refused {}
+impl std::error::Error for FormulaRefused {}
 impl std::error::Error for CaseRefused {}
 
 /// The answer of a call that returned this number.
@@ -140,6 +186,17 @@ fn answer<T>(row: u32, accepted: T) -> Result<T, Refused> {
         Ok(accepted)
     } else {
         Err(Refused(row))
+    }
+}
+
+/// What a formula answers: its row, and the out-words, which are 0 before it. A text that is read lists a
+/// predicate or more.
+fn formula_answer(row: u32, listed: u64, made: u64, place: u64) -> Result<usize, FormulaRefused> {
+    match row {
+        0 => Ok(listed as usize),
+        15 | 16 => Err(FormulaRefused::Text { row, place: place as usize }),
+        _ if listed == 0 => Err(FormulaRefused::Whole(Refused(row))),
+        _ => Err(FormulaRefused::Stopped { row, listed: listed as usize, made: made as usize }),
     }
 }
 
@@ -293,10 +350,78 @@ impl Record {
         };
         answer(row, ())
     }
+
+    /// A written formula as asserts, in the order of their steps and then of the text. `table` has predicates of
+    /// address and data words; `answer` gets three words for each predicate in the text, and it is answered how
+    /// many these are. Meets 1, 2, 3, then 15 or 16, 13, 9 of the conditions, and then what its accesses meet:
+    /// 5, 6, 7, 8, 9.
+    pub fn assert_formula(
+        &mut self,
+        nodes: &mut [u32],
+        list: &mut [u32],
+        text: &[u8],
+        table: &[u32],
+        answer: &mut [u32],
+    ) -> Result<usize, FormulaRefused> {
+        let (mut listed, mut made, mut place) = (0, 0, 0);
+        let row = unsafe {
+            raw::md_assert_formula(
+                self,
+                nodes.as_mut_ptr(),
+                nodes.len(),
+                list.as_mut_ptr(),
+                list.len(),
+                text.as_ptr(),
+                text.len(),
+                table.as_ptr(),
+                table.len(),
+                answer.as_mut_ptr(),
+                answer.len(),
+                &mut listed,
+                &mut made,
+                &mut place,
+            )
+        };
+        formula_answer(row, listed, made, place)
+    }
+
+    /// A written formula as checks, in the order of their steps and then of the text. `table` has predicates of
+    /// address and data words; `answer` gets three words for each predicate in the text, and it is answered how
+    /// many these are. Meets 1, 2, 3, then 15 or 16, 13, 9 of the conditions, and then what its accesses meet:
+    /// 5, 6, 9.
+    pub fn check_formula(
+        &mut self,
+        nodes: &mut [u32],
+        list: &[u32],
+        text: &[u8],
+        table: &[u32],
+        answer: &mut [u32],
+    ) -> Result<usize, FormulaRefused> {
+        let (mut listed, mut made, mut place) = (0, 0, 0);
+        let row = unsafe {
+            raw::md_check_formula(
+                self,
+                nodes.as_mut_ptr(),
+                nodes.len(),
+                list.as_ptr(),
+                list.len(),
+                text.as_ptr(),
+                text.len(),
+                table.as_ptr(),
+                table.len(),
+                answer.as_mut_ptr(),
+                answer.len(),
+                &mut listed,
+                &mut made,
+                &mut place,
+            )
+        };
+        formula_answer(row, listed, made, place)
+    }
 }
 
 /// A case file, run from its first byte to its last, with ports of its own: its text is written into
-/// `text`. A refused case leaves node words, list words and text bytes all 0, and meets any row but 3 and 4.
+/// `text`. A refused case leaves node words, list words and text bytes all 0, and meets any row but 3, 4, 15, 16.
 pub fn case(bytes: &[u8], nodes: &mut [u32], list: &mut [u32], text: &mut [u8]) -> Result<Case, CaseRefused> {
     let mut record = Record::default();
     let mut count = 0;

@@ -95,6 +95,40 @@ extern "C" {
         data_length: usize,
     ) -> u32;
 
+    pub fn md_assert_formula(
+        record: *mut Record,
+        nodes: *mut u32,
+        nodes_length: usize,
+        list: *mut u32,
+        list_length: usize,
+        text: *const u8,
+        text_length: usize,
+        table: *const u32,
+        table_length: usize,
+        answer: *mut u32,
+        answer_length: usize,
+        listed: *mut u64,
+        made: *mut u64,
+        place: *mut u64,
+    ) -> u32;
+
+    pub fn md_check_formula(
+        record: *mut Record,
+        nodes: *mut u32,
+        nodes_length: usize,
+        list: *const u32,
+        list_length: usize,
+        text: *const u8,
+        text_length: usize,
+        table: *const u32,
+        table_length: usize,
+        answer: *mut u32,
+        answer_length: usize,
+        listed: *mut u64,
+        made: *mut u64,
+        place: *mut u64,
+    ) -> u32;
+
     pub fn md_case(
         bytes: *const u8,
         bytes_length: usize,

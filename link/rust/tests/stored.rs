@@ -2,7 +2,7 @@
 //! and every word of every buffer, as the second program found them. `tests/README.md` and
 //! `tools/storedcases.py` say how the inputs are laid out.
 
-use mangerday::{case, raw, Asserted, Ports, Record, Refused, Written};
+use mangerday::{case, raw, Asserted, FormulaRefused, Ports, Record, Refused, Written};
 use std::fmt::Write;
 use std::{fs, thread};
 
@@ -131,6 +131,75 @@ fn stored_calls() {
     assert_eq!(expected.next(), None, "every line was reached");
 }
 
+/// The buffers of the stored formulas: nodes, list, table and answer, and the text; and the record.
+#[derive(Clone)]
+struct Lent {
+    record: Record,
+    words: [Vec<u32>; 4],
+    text: Vec<u8>,
+}
+
+impl Lent {
+    fn put(&mut self, [buffer, place, many, stride, value, step]: [u32; 6]) {
+        for i in 0..many {
+            let (at, word) = ((place + i * stride) as usize, value.wrapping_add(i.wrapping_mul(step)));
+            match buffer {
+                0 | 1 => self.words[buffer as usize][at] = word,
+                2 => self.text[at] = word as u8,
+                _ => self.words[buffer as usize - 1][at] = word,
+            }
+        }
+    }
+
+    /// A formula, and the numbers that it leaves in C: the row, and the three out-words.
+    fn call(&mut self, [kind, a, b, c, d, e, _, _]: [u32; 8]) -> [u64; 4] {
+        let [nodes, list, table, answer] = &mut self.words;
+        let (nodes, list) = (&mut nodes[..a as usize], &mut list[..b as usize]);
+        let (text, table, answer) = (&self.text[..c as usize], &table[..d as usize], &mut answer[..e as usize]);
+        let untold = u64::from(OUT);
+        let done = match kind {
+            1 => self.record.assert_formula(nodes, list, text, table, answer),
+            _ => self.record.check_formula(nodes, list, text, table, answer),
+        };
+        match done {
+            Ok(listed) => [0, listed as u64, listed as u64, untold],
+            Err(FormulaRefused::Whole(Refused(row))) => [row.into(), untold, untold, untold],
+            Err(FormulaRefused::Text { row, place }) => [row.into(), untold, untold, place as u64],
+            Err(FormulaRefused::Stopped { row, listed, made }) => [row.into(), listed as u64, made as u64, untold],
+        }
+    }
+
+    fn line(&mut self, numbers: [u32; 8]) -> String {
+        let before = self.clone();
+        let [row, listed, made, place] = self.call(numbers);
+        let Record { n, w, nodes, entries, asserted, checked } = self.record;
+        let mut line = format!("call {} {row} {listed} {made} {place} ", numbers[7]);
+        write!(line, "{n} {w} {nodes} {entries} {asserted} {checked}").expect("a string takes it");
+        for (name, buffer) in [("nodes", 0), ("list", 1), ("answer", 3)] {
+            put_changes(&mut line, name, &before.words[buffer], &self.words[buffer]);
+        }
+        line
+    }
+}
+
+#[test]
+fn stored_formulas() {
+    let (input, output) = (read("formulas_test/stdin"), read("formulas_test/stdout"));
+    let (mut input, output) = (&input[..], String::from_utf8(output).expect("a text"));
+    let mut expected = output.lines();
+    let words = std::array::from_fn(|_| vec![0; 49_160]);
+    let mut lent = Lent { record: Record::default(), words, text: vec![0; 65_600] };
+    while let Some(numbers) = item(&mut input) {
+        let [kind, a, b, c, d, e, f, _] = numbers;
+        match kind {
+            9 => lent.put([a, b, c, d, e, f]),
+            10 => lent.record = Record { n: a, w: b, nodes: c, entries: d, asserted: e, checked: f },
+            _ => assert_eq!(Some(lent.line(numbers).as_str()), expected.next()),
+        }
+    }
+    assert_eq!(expected.next(), None, "every line was reached");
+}
+
 /// The digits of a large number, the first the highest, and of that the remainder.
 fn digest(digits: impl Iterator<Item = u64>, base: u64) -> u64 {
     digits.fold(0, |sum, digit| (sum * base + digit) % 2_147_483_629)
@@ -191,7 +260,12 @@ fn small_stack() {
         record.assert(&mut nodes, &mut list, odd, &address, &data)?;
         record.read(&mut nodes, &list, &mut ports, 0, &[odd, even], &[1, 1].repeat(8), &mut word)?;
         record.read(&mut nodes, &list, &mut ports, 0, &[even, 1], &address, &mut word)?;
-        record.check(&mut nodes, &list, 1, &address, &data)
+        record.check(&mut nodes, &list, 1, &address, &data)?;
+        let (table, mut answer) = ([&address[..], &data[..]].concat(), [0; 3]);
+        let deep = [b"N".repeat(32), b"m0".to_vec()].concat();
+        let done = record.assert_formula(&mut nodes, &mut list, &deep, &table, &mut answer);
+        assert_eq!(done, Ok(1));
+        Ok::<(), Refused>(())
     };
     let thread = thread::Builder::new().stack_size(mangerday::STACK).spawn(run).expect("a thread");
     thread.join().expect("no overflow").expect("accepted");
