@@ -1,12 +1,12 @@
 -- The answer words list what the text lists.
 use mathlib.Core.Path.{_≡_, refl, sym, ap, subst, _∙_}
 use mathlib.Core.Bool.{Bool, true, false, cond, true≢false, false≢true}
-use mathlib.Core.List.{List, [], _∷_}
+use mathlib.Core.List.{List, [], _∷_, _++_}
 use Prim.Native.Nat.{ℕ, zero, suc, _*_, _^_, _<_, _≤_}
 use native.Mathlib.Omega.{arith}
 use lib.Dec.{leb}
-use lib.ListN.{length}
-use Rattle.formulas.specs.Language.{Tree, Listed, listed, placed, byStep, ordered}
+use lib.ListN.{length, length-append}
+use Rattle.formulas.specs.Language.{Tree, predicate, next, both, when, grouped, Listed, listed, placed, byStep, ordered}
 use Rattle.conditions.specs.Assignment.{bitAt}
 use Rattle.model.specs.Formula.{Triple, Triples}
 use Rattle.model.specs.Step.{State, conditions, Call, nodeCall, Given, triples, Answer, refused, done, isRefused, triplesOf, refusal, Finish, closed, finishNode, finish, turnedDownBy, begin, step, run}
@@ -25,6 +25,14 @@ use Rattle.formula_calls.proofs.StandLaws.{memory-valid, run-listed}
 use Rattle.formula_calls.proofs.WordLaws.{stands-in}
 
 -- triples are what is listed in the order of the steps too
+-- a tree lists one predicate or more
+lists-some : (k : ℕ) (bs : List ℕ) (t : Tree) → 1 ≤ length (listed k bs t)
+lists-some k bs (predicate n) = omega arith
+lists-some k bs (next t) = lists-some (suc k) bs t
+lists-some k bs (both t u) = let a = length-append (listed k bs t) (listed k bs u) in let b = lists-some k bs t in omega (arith, a, b)
+lists-some k bs (when b t) = lists-some k (bs ++ (b ∷ [])) t
+lists-some k bs (grouped t) = lists-some k bs t
+
 module _ (φ : ℕ → Bool) (w w′ : List ℕ) where
   placed-listed : (t : Triple) (l : Listed) (ts : List Triple) (ls : List Listed) → IsListed φ w w′ t l → AreListed φ w w′ ts ls → AreListed φ w w′ (placed (λ (t : Triple). t .step) t ts) (placed (λ (l : Listed). l .step) l ls)
   placed-listed t l [] [] I L = (I, tt)
@@ -119,4 +127,4 @@ pub formula-lists : FormulaLists
 unfolding FormulaLists formulaStep
 formula-lists k text table out s n h =
     let L = found-lists k text table out s n (readFormula text table out s) (finds text table out s) h in
-    record { tree = L .tree; triples = L .listing; read = L .read; many = L .many; fits = L .fits; words = stands-in (L .listing) out (finishFormula k table out s (readFormula text table out s) .words) (omega (arith, L .fits, L .many, L .lists)) (L .words); means = L .means }
+    record { tree = L .tree; triples = L .listing; read = L .read; many = L .many; some = (let a = as-many (L .tree) in let b = lists-some 0 [] (L .tree) in omega (arith, L .many, a, b)); fits = L .fits; words = stands-in (L .listing) out (finishFormula k table out s (readFormula text table out s) .words) (omega (arith, L .fits, L .many, L .lists)) (L .words); means = L .means }

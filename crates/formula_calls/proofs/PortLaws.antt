@@ -1,5 +1,5 @@
 -- A formula sees no ports, and leaves them.
-use mathlib.Core.Path.{_≡_, refl, sym, ap, _∙_}
+use mathlib.Core.Path.{_≡_, refl, ap, _∙_}
 use mathlib.Core.Bool.{false}
 use mathlib.Core.List.{List, [], _∷_}
 use Prim.Native.Nat.{ℕ, suc}
@@ -9,7 +9,7 @@ use Rattle.model.specs.Formula.{Triple}
 use Rattle.model.specs.Step.{State, withPorts, conditions, access, nodeCall, Answer, refused, done, triplesOf, Result, step}
 use Rattle.model.specs.Frames.{isRead, PortsUnseen}
 use Rattle.model.proofs.UnseenLaws.{ports-unseen}
-use Rattle.formula_calls.specs.Call.{Making, asserting, checking, inOrder, listedOver, accessBy, accessesBy, Made, unlessRefused, make, FormulaAnswer, FormulaResult, Found, turnsDown, reads, readFormula, answerBy, makeListed, afterBuilding, finishFormula, formulaStep}
+use Rattle.formula_calls.specs.Call.{Making, asserting, checking, inOrder, listedOver, accessBy, accessesBy, Made, unlessRefused, make, FormulaAnswer, FormulaResult, Found, turnsDown, reads, readFormula, answerBy, afterBuilding, finishFormula, formulaStep}
 use Rattle.formula_calls.specs.Claims.{FormulaPortsUnseen}
 use Rattle.formula_calls.specs.Chain.{FormulaAnswered}
 

@@ -116,6 +116,7 @@ pub record ListsText (k : Making) (text table out : List ℕ) (s : State) (n : �
   pub triples : List Triple
   pub read : ReadAs text table s tree
   pub many : n ≡ length (ordered tree)
+  pub some : 1 ≤ n
   pub fits : 3 * n ≤ length out
   pub words : StandInWords triples out (formulaStep k text table out s .words)
   pub means : (a : ℕ) → a < 2 ^ 64 → AreListed (bitAt a) (s .words) (formulaStep k text table out s .after .words) triples (ordered tree)
