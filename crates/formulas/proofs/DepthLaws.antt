@@ -1,16 +1,13 @@
--- Request 5: how deep a tree is nested, the limit of it, and the steps in it.
-use mathlib.Core.Path.{_≡_}
+-- Request 5: how deep a tree is nested, and the limit of it.
 use mathlib.Core.Logic.{_↔_}
 use mathlib.Core.Bool.{true}
-use mathlib.Core.List.{List, [], _∷_, _++_}
-use Prim.Native.Nat.{ℕ, zero, suc, _+_, _≤_, _<_, max}
+use Prim.Native.Nat.{ℕ, zero, suc, _≤_, max}
 use native.Mathlib.Omega.{arith}
 use lib.Dec.{T}
-use Rattle.formulas.specs.Language.{Tree, predicate, next, both, when, grouped, Listed, listed, ordered, Below, passes}
+use Rattle.formulas.specs.Language.{Tree, predicate, next, both, when, grouped}
 use Rattle.formulas.specs.Reading.{Limits, within}
 use Rattle.formulas.specs.Claims.{depth, numbers}
 use Rattle.formulas.proofs.LimitLaws.{and-left, and-right, and-both}
-use Rattle.formulas.proofs.OrderLaws.{byStep-passes}
 
 below : (n d : ℕ) → n ≤ d → suc n ≤ suc d
 below n d h = omega arith
@@ -54,20 +51,3 @@ numbers-any (next t) = numbers-any t
 numbers-any (both t u) = and-both (numbers any t) (numbers any u) (numbers-any t) (numbers-any u)
 numbers-any (when b t) = numbers-any t
 numbers-any (grouped t) = numbers-any t
-
--- No step is larger than what is open
-
-below-append : (n : ℕ) (xs ys : List Listed) → Below (λ e. e .step) n xs → Below (λ e. e .step) n ys → Below (λ e. e .step) n (xs ++ ys)
-below-append n [] ys h g = g
-below-append n (x ∷ xs) ys h g = (h .0, below-append n xs ys (h .1) g)
-
-pub listed-below : (n k : ℕ) (bs : List ℕ) (t : Tree) → k + depth t < n → Below (λ e. e .step) n (listed k bs t)
-listed-below n k bs (predicate m) h = (omega arith, tt)
-listed-below n k bs (next t) h = listed-below n (suc k) bs t (omega arith)
-listed-below n k bs (both t u) h = below-append n (listed k bs t) (listed k bs u) (listed-below n k bs t (omega arith)) (listed-below n k bs u (omega arith))
-listed-below n k bs (when b t) h = listed-below n k (bs ++ (b ∷ [])) t (omega arith)
-listed-below n k bs (grouped t) h = listed-below n k bs t (omega arith)
-
--- "ordered by step, then text": a pass over the list for each step that may be
-pub ordered-passes : (t : Tree) → depth t ≤ 32 → ordered t ≡ passes (λ e. e .step) 0 33 (listed 0 [] t)
-ordered-passes t h = byStep-passes (λ e. e .step) 33 (listed 0 [] t) (listed-below 33 0 [] t (omega arith))

@@ -22,13 +22,9 @@ use Rattle.listing.specs.declared.Plan.{Plan}
 use Rattle.listing.specs.declared.Around.{Around}
 use Rattle.listing.specs.declared.Walk.{Walk}
 use Rattle.listing.specs.Contract.{Seen, seen, limits, Counts, moved, Behind, Walks, Untouched, seenAt, Came, Enough, Goes, Leads, joins, Ended, outermost, begun, CountsFrom, MayWalk, Walked}
-use Rattle.listing.proofs.WalkLaws.{limits-same, seen-both}
+use Rattle.listing.proofs.WalkLaws.{limits-same, seen-untouched, seen-both}
 
--- Where predicates are counted, reading a tree touches nothing.
-seen-untouched : (p : Pass) (k c : ℕ) (t : Tree) (w out w′ out′ : List ℕ) (x y : Walk) → seenAt y w′ out′ ≡ seen p k c t (seenAt x w out) → Untouched p w out w′ out′
-seen-untouched Count k c t w out w′ out′ x y e = (ap (λ (s : Seen). s .words) e, ap (λ (s : Seen). s .out .words) e)
-seen-untouched (Lists j) k c t w out w′ out′ x y e = tt
-
+-- Nothing is touched by two parts that touch nothing.
 untouched-both : (p : Pass) (w out w′ out′ w″ out″ : List ℕ) → Untouched p w out w′ out′ → Untouched p w′ out′ w″ out″ → Untouched p w out w″ out″
 untouched-both Count w out w′ out′ w″ out″ a b = (b .0 ∙ a .0, b .1 ∙ a .1)
 untouched-both (Lists j) w out w′ out′ w″ out″ a b = tt

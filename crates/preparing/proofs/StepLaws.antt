@@ -30,11 +30,6 @@ passes-next step n xs =
     let e : 0 + n ≡ n = omega arith in
     passes-split step 0 n 1 xs ∙ ap (λ (l : List _). passes step 0 n xs ++ l) (ap (λ (j : ℕ). only step j xs ++ []) e ∙ append-nil (only step n xs))
 
--- the words of triples
-pub words-length : (ts : List Triple) → length (tripleWords ts) ≡ 3 * length ts
-words-length [] = refl
-words-length (t ∷ ts) = let e = words-length ts in omega (arith, e)
-
 -- a triple put behind words that are filled
 put-over : (pre rest : List ℕ) (j : ℕ) (t : Triple) → length pre ≡ 3 * j → 3 ≤ length rest → put t (outOf (pre ++ rest) j) ≡ outOf (pre ++ (t .step ∷ t .condition ∷ t .named ∷ drop 3 rest)) (j + 1)
 unfolding put

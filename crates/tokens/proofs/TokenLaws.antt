@@ -40,14 +40,6 @@ head-is c (x ∷ s) e = go (eqb x c) refl e
     go true q e = ap (λ (y : ℕ). y ∷ s) (eqb→eq x c (subst T (sym q) tt))
     go false q e = absurd (true≢false (sym e))
 
-pub byte-here : {A : Type 0} (c : ℕ) (s : List ℕ) (f : List ℕ → A) (a : A) → starts c s ≡ true → byte c s f a ≡ f (drop 1 s)
-byte-here c [] f a e = absurd (true≢false (sym e))
-byte-here c (x ∷ s) f a e = go (eqb x c) refl e
-  where
-    go : (b : Bool) → eqb x c ≡ b → cond b true false ≡ true → cond b (f s) a ≡ f s
-    go true q e = refl
-    go false q e = absurd (true≢false (sym e))
-
 pub byte-not : {A : Type 0} (c : ℕ) (s : List ℕ) (f : List ℕ → A) (a : A) → starts c s ≡ false → byte c s f a ≡ a
 byte-not c [] f a e = refl
 byte-not c (x ∷ s) f a e = go (eqb x c) refl e
