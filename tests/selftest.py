@@ -15,7 +15,6 @@ import itertools
 import os
 import unittest
 from collections import Counter
-from contextlib import contextmanager
 
 from rooms import ROOT
 import calls
@@ -42,6 +41,7 @@ import wrongreads
 import wrongsearches
 import wrongwrites
 from casefile import CaseFile, NotACaseFile, ONE, X, ZERO, parse
+from planting import planted
 from randomcases import Random
 from reference import Event, memcase, printed, run_case
 from tables import TERMINALS, Conditions, TooManyVariables
@@ -954,17 +954,6 @@ WRONG_CALLS = [
 ]
 WRONG_CALLS += [(calls.Memory, "read", wrong) for wrong in wrongreads.WRONG_READS]
 WRONG_CALLS += [(calls.Memory, "write", wrong) for wrong in wrongwrites.WRONG_WRITES]
-
-
-@contextmanager
-def planted(place, name, wrong):
-    """The reference with one function of it replaced by a wrong one."""
-    right = getattr(place, name)
-    setattr(place, name, lambda *arguments: wrong(right, *arguments))
-    try:
-        yield
-    finally:
-        setattr(place, name, right)
 
 
 class WrongPrograms(unittest.TestCase):

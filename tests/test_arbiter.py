@@ -18,6 +18,7 @@ from concurrent.futures import ThreadPoolExecutor
 
 from rooms import ROOT, TOOLS
 import arbiter
+import runs
 import storedcases
 from reference import TEXT_BYTES, memcase
 from rowcases import WORKED
@@ -46,7 +47,7 @@ def simulator(way):
 
 def run(way, data=WORKED, seconds=SECONDS):
     """What one run of a simulator wrote and how it failed, by the arbiter's own function."""
-    return arbiter.run(shlex.split(simulator(way)), data, seconds)[:3]
+    return runs.run(shlex.split(simulator(way)), data, seconds)[:3]
 
 
 class Folders(unittest.TestCase):
@@ -343,22 +344,22 @@ class Runs(unittest.TestCase):
     """Single runs: what was written, and how the run ended."""
 
     def test_ends(self):
-        hung = arbiter.HUNG, "it had not ended after 0.5 seconds"
+        hung = runs.HUNG, "it had not ended after 0.5 seconds"
         self.assertEqual(run("right"), (WORKED_TEXT, None, None))
         self.assertEqual(run("hangs", seconds=SOON), (b"", *hung))
         self.assertEqual(run("complains-without-end", seconds=SOON), (b"", *hung))
         self.assertEqual(run("ends-with-status-after-text"),
-                         (WORKED_TEXT, arbiter.CRASHED, "it ended with status 3"))
+                         (WORKED_TEXT, runs.CRASHED, "it ended with status 3"))
 
     def test_hung_after_the_text(self):
         """The text is there, and still the run has not ended; what is left of it is killed."""
         ways = ["hangs-after-text", "hangs-with-output-closed", "leaves-child"]
         with ThreadPoolExecutor(len(ways)) as pool:
             opened, closed, left = pool.map(lambda way: run(way, seconds=2), ways)
-        not_ended = arbiter.HUNG, "it had not ended after 2 seconds"
+        not_ended = runs.HUNG, "it had not ended after 2 seconds"
         self.assertEqual(opened, (WORKED_TEXT, *not_ended))
         self.assertEqual(closed, (WORKED_TEXT, *not_ended))
-        self.assertEqual(left[1:], (arbiter.HUNG, "its output was still open after 2 seconds"))
+        self.assertEqual(left[1:], (runs.HUNG, "its output was still open after 2 seconds"))
         self.assert_ends(int(left[0]))
 
     def assert_ends(self, process):
@@ -412,7 +413,7 @@ class Lines(unittest.TestCase):
     """The first line that differs, and what is shown of it."""
 
     def lines(self, right, found):
-        judge, simulated = arbiter.Run(right, None, None), arbiter.Run(found, None, None)
+        judge, simulated = runs.Run(right, None, None), runs.Run(found, None, None)
         return list(arbiter.detail_lines("B", judge, simulated))
 
     def test_first_difference(self):

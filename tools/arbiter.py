@@ -22,47 +22,44 @@ A row is printed for each case on which not all agree, and below it the first li
 differs; then the cases of each verdict are counted, and those are named in which both
 simulators have the same wrong line first.  The status is 0 where all agreed, 1 where a
 simulator did not, 2 where `memcase` failed or the arbiter cannot run what it is given.
+
+With --sharpen N each simulator is also run on up to N sharper cases of each case, in which
+bits that are X there are 0 or 1 (sharper.py), and its answer must be within its own answer
+to the case itself (sharpening.py); `memcase` is not asked.  Where it is not, the simulator
+swings: the bit that was sharpened, the access, the bit and an assignment are shown below the
+row.  It failed where it hangs, crashes or writes no text of the case, and nothing is claimed
+where it refuses one of the two.  The pairs are counted at the end, and the status is 1 where
+a simulator swings or failed.
 """
 
 import argparse
 import io
 import itertools
-import math
 import os
 import re
-import selectors
-import shlex
-import shutil
-import signal
-import subprocess
 import sys
-import tempfile
-import time
 from collections import Counter, namedtuple
 from concurrent.futures import ThreadPoolExecutor
 
 import casetext
+import orders
 from reference import TEXT_BYTES
+from runs import (CRASHED, HUNG, SHOWN_BYTES, Misuse, cut, escaped, last_line, need_program, need_seconds, run,
+                  words_of)
+from sharper import sharper_pairs
 
-VERDICTS = AGREED, DIFFERS, HUNG, CRASHED = "agreed", "differs", "hung", "crashed"
+AGREED, DIFFERS = "agreed", "differs"
+VERDICTS = AGREED, DIFFERS, HUNG, CRASHED
 NO_VERDICT = "-"
 
 ROOT = os.path.dirname(os.path.dirname(os.path.abspath(__file__)))
 MEMCASE = os.path.join(ROOT, "target", "bin", "memcase")
 JUDGE = "memcase"
 
-READ_BYTES = 65536
-KEPT_ERROR_BYTES = 4096
-POLL_SECONDS = 0.005
-SHOWN_BYTES = 72
 SHOWN_BEFORE = 24
 
 # A case file: its name, which is its path in the folder, and its bytes.
 Case = namedtuple("Case", "name data")
-
-# What a run wrote, at most one byte more than the longest text; HUNG, CRASHED or None;
-# how it failed, in words; and the end of what it wrote to standard error.
-Run = namedtuple("Run", "out failure how errors", defaults=(b"",))
 
 # A whole text: a refusal alone, or lines of which the last says how many entries there are.
 NUMBER = rb"(0|[1-9][0-9]*)"
@@ -73,90 +70,9 @@ WHOLE = re.compile(rb"refused " + NUMBER + rb" after " + NUMBER + rb"\n|((?!refu
 Difference = namedtuple("Difference", "number right found")
 
 # A case's outcome: the verdict on each simulator, NO_VERDICT where `memcase` failed; what
-# is said below the row; and whether both simulators differ in the same way.
-Outcome = namedtuple("Outcome", "name verdicts details alike")
-
-
-class Misuse(Exception):
-    """The arbiter cannot run what it is given, with the reason."""
-
-
-# Runs
-
-def has_ended(process):
-    """Whether the process has ended; it is not collected, so its group's number stays taken."""
-    return os.waitid(os.P_PID, process.pid, os.WEXITED | os.WNOHANG | os.WNOWAIT) is not None
-
-
-def follow(process, deadline):
-    """Read what the process writes until the run is over; its output, whether that is
-    closed, and the end of its standard error."""
-    out, errors, closed = bytearray(), b"", False
-    with selectors.DefaultSelector() as selector:
-        selector.register(process.stdout, selectors.EVENT_READ)
-        selector.register(process.stderr, selectors.EVENT_READ)
-        while len(out) <= TEXT_BYTES and not (closed and has_ended(process)):
-            left = deadline - time.monotonic()
-            if left <= 0:
-                break
-            for key, _ in selector.select(min(left, POLL_SECONDS) if closed else left):
-                data = os.read(key.fd, READ_BYTES)
-                if not data:
-                    selector.unregister(key.fileobj)
-                    closed = closed or key.fileobj is process.stdout
-                elif key.fileobj is process.stdout:
-                    out += data
-                else:
-                    errors = (errors + data)[-KEPT_ERROR_BYTES:]
-    return bytes(out[:TEXT_BYTES + 1]), closed, errors
-
-
-def rest_of(stream):
-    """What is in the pipe at once, at most one read of it."""
-    os.set_blocking(stream.fileno(), False)
-    try:
-        return os.read(stream.fileno(), READ_BYTES)
-    except BlockingIOError:
-        return b""
-
-
-def run(command, data, seconds):
-    """One run of a command with these bytes on its standard input."""
-    deadline = time.monotonic() + seconds
-    with tempfile.TemporaryFile() as case:
-        case.write(data)
-        case.seek(0)
-        process = subprocess.Popen(command, stdin=case, stdout=subprocess.PIPE, stderr=subprocess.PIPE,
-                                   start_new_session=True)
-    with process.stdout, process.stderr:
-        try:
-            out, closed, errors = follow(process, deadline)
-            ended = has_ended(process)
-        finally:
-            os.killpg(process.pid, signal.SIGKILL)
-            process.wait()
-        errors += rest_of(process.stderr)
-    if len(out) > TEXT_BYTES:
-        return Run(out, None, None, errors)
-    if ended and process.returncode != 0:
-        return Run(out, CRASHED, ending(process.returncode) + last_line(errors), errors)
-    if ended and closed:
-        return Run(out, None, None, errors)
-    what = "its output was still open" if ended else "it had not ended"
-    return Run(out, HUNG, "%s after %g seconds" % (what, seconds), errors)
-
-
-def ending(status):
-    if status > 0:
-        return "it ended with status %d" % status
-    names = {number.value: " (%s)" % number.name for number in signal.Signals}
-    return "it ended by signal %d%s" % (-status, names.get(-status, ""))
-
-
-def last_line(errors):
-    """The last line of a standard error, as more words to a sentence."""
-    line = errors.strip().split(b"\n")[-1].strip()
-    return ": " + cut(line, 0) if line else ""
+# is said below the row; whether both simulators differ in the same way; and each simulator's
+# verdicts on the sharper cases.
+Outcome = namedtuple("Outcome", "name verdicts details alike orders")
 
 
 # Verdicts
@@ -183,40 +99,48 @@ def same_way(judge, first, second):
 
 
 class Arbiter:
-    """The three programs, and how long a run may take."""
+    """The three programs, how long a run may take, and how many sharper cases are made of a case."""
 
-    def __init__(self, memcase, commands, names, seconds):
+    def __init__(self, memcase, commands, names, seconds, sharpen):
         self.memcase = memcase
         self.commands = commands
         self.names = names
         self.seconds = seconds
+        self.sharpen = sharpen
 
     def outcome(self, case):
         """Run a case: `memcase` first, and the simulators where it gives a text."""
         judge = run(self.memcase, case.data, self.seconds)
         fault = judge_fault(judge)
         if fault:
-            return Outcome(case.name, [NO_VERDICT] * 2, ["  no verdict: memcase " + fault], False)
+            return Outcome(case.name, [NO_VERDICT] * 2, ["  no verdict: memcase " + fault], False, [[], []])
         runs = [run(command, case.data, self.seconds) for command in self.commands]
         details = [line for name, simulator in zip(self.names, runs)
                    for line in detail_lines(name, judge, simulator)]
-        return Outcome(case.name, [verdict(judge, simulator) for simulator in runs], details,
-                       same_way(judge, *runs))
+        found, more = self.sharpened(case, runs)
+        return Outcome(case.name, [verdict(judge, simulator) for simulator in runs], details + more,
+                       same_way(judge, *runs), found)
+
+    def sharpened(self, case, runs):
+        """Run the sharper cases of a case: each simulator's verdicts, and what is said below the row."""
+        found, lines = [[], []], []
+        for words, pair in sharper_pairs(case.data, self.sharpen):
+            for place, simulator in enumerate(runs):
+                judgement = self.order(place, pair, simulator)
+                found[place].append(judgement.verdict)
+                if not simulator.failure:
+                    lines += order_lines(self.names[place], words, pair, judgement)
+        return found, lines
+
+    def order(self, place, pair, simulator):
+        """A simulator's answer to a sharper case beside its answer to the case, which may have failed."""
+        if simulator.failure:
+            return orders.Judgement(orders.FAILED)
+        sharper = run(self.commands[place], pair.second.case.bytes(), self.seconds)
+        return orders.judge_runs(pair, [simulator, sharper])
 
 
 # The table
-
-def escaped(data):
-    """Bytes as printable text, a backslash doubled."""
-    return "".join(chr(byte) if 32 <= byte < 127 and byte != 92 else "\\\\" if byte == 92 else "\\x%02x" % byte
-                   for byte in data)
-
-
-def cut(data, start):
-    """The bytes from `start` on as far as they are shown."""
-    end = start + SHOWN_BYTES
-    return (".." if start else "") + escaped(data[start:end]) + (".." if end < len(data) else "")
-
 
 def shown(line, start):
     if line is None:
@@ -251,6 +175,15 @@ def detail_lines(name, judge, simulator):
     elif found != AGREED:
         right = ", and its text was right" if simulator.out == judge.out else ""
         yield "  %s %s: %s%s" % (name, found, simulator.how, right)
+
+
+def order_lines(name, words, pair, judgement):
+    """What is said of a simulator and a sharper case below the row of a case."""
+    if judgement.verdict == orders.SWINGS:
+        yield "  %s swings where %s" % (name, words)
+        yield "    " + pair.shown_swing(judgement.swings[0], pair.first.name, pair.second.name)
+    elif judgement.verdict == orders.FAILED:
+        yield "  %s failed where %s: %s" % (name, words, judgement.why)
 
 
 def judge_fault(judge):
@@ -312,11 +245,22 @@ def print_counts(names, outcomes, left_out):
         print("left out: %s not named .case or .txt" % counted(left_out, "file"))
 
 
+def print_orders(names, outcomes):
+    made = [len(outcome.orders[0]) for outcome in outcomes if outcome.orders[0]]
+    print("%s of %s" % (counted(sum(made), "sharper case"), counted(len(made), "case")))
+    for place, name in enumerate(names):
+        counts = Counter(word for outcome in outcomes for word in outcome.orders[place])
+        print("%s: order kept in %s, swings in %d, no claim in %d, failed in %d" % (
+            name, counted(counts[orders.KEPT], "pair"), counts[orders.SWINGS], counts[orders.NO_CLAIM],
+            counts[orders.FAILED]))
+
+
 def exit_status(outcomes):
     found = {word for outcome in outcomes for word in outcome.verdicts}
     if NO_VERDICT in found:
         return 2
-    return 0 if found == {AGREED} else 1
+    orders_found = {word for outcome in outcomes for verdicts in outcome.orders for word in verdicts}
+    return 0 if found == {AGREED} and not orders_found & {orders.SWINGS, orders.FAILED} else 1
 
 
 # What is given
@@ -361,23 +305,6 @@ def read_cases(folder):
     return cases, len(paths) - len(named)
 
 
-def words_of(command):
-    """A command as the words that are run."""
-    try:
-        words = shlex.split(command)
-    except ValueError as error:
-        raise Misuse("the command %s cannot be split: %s" % (command, error)) from None
-    if not words:
-        raise Misuse("an empty command")
-    return need_program(words, "")
-
-
-def need_program(words, hint):
-    if shutil.which(words[0]) is None:
-        raise Misuse("no program %s%s" % (words[0], hint))
-    return words
-
-
 def read_memcase(command):
     if command is None:
         return need_program([MEMCASE], "; `rt check memcase` builds it")
@@ -393,25 +320,28 @@ def need_names(names):
 
 def arbitrate(options):
     """Run all cases and print what came out; the status to end with."""
-    if not (options.seconds > 0 and math.isfinite(options.seconds)):
-        raise Misuse("--seconds must be above 0")
+    need_seconds(options.seconds)
     if options.jobs < 1:
         raise Misuse("--jobs must be 1 or more")
+    if options.sharpen < 0:
+        raise Misuse("--sharpen must be 0 or more")
     need_names(options.names)
     cases, left_out = read_cases(options.folder)
     memcase = read_memcase(options.memcase)
     commands = [words_of(command) for command in options.commands]
 
-    arbiter = Arbiter(memcase, commands, options.names, options.seconds)
+    arbiter = Arbiter(memcase, commands, options.names, options.seconds, options.sharpen)
     table = Table(options.names, cases)
     outcomes = []
     with ThreadPoolExecutor(options.jobs) as pool:
         for outcome in pool.map(arbiter.outcome, cases):
             outcomes.append(outcome)
-            if options.all or outcome.verdicts != [AGREED, AGREED]:
+            if options.all or outcome.details:
                 table.put(outcome)
     table.end()
     print_counts(options.names, outcomes, left_out)
+    if options.sharpen:
+        print_orders(options.names, outcomes)
     return exit_status(outcomes)
 
 
@@ -426,6 +356,8 @@ def main():
     parser.add_argument("--names", nargs=2, default=["first", "second"], metavar=("A", "B"),
                         help="what the simulators are called (first second)")
     parser.add_argument("--all", action="store_true", help="a row for every case")
+    parser.add_argument("--sharpen", type=int, default=0, metavar="N",
+                        help="sharper cases of each case, at most so many (0)")
     options = parser.parse_args()
     try:
         sys.exit(arbitrate(options))

@@ -218,17 +218,25 @@ class Encoder:
         return self.complements[number]
 
 
-def encode(text):
-    """The bytes of the case that a text says; Mistake otherwise."""
+def read_text(text):
+    """The case that a text says, and the number of the line of each access; Mistake otherwise."""
     encoder = Encoder()
+    lines = []
     for number, line in enumerate(text.splitlines(), 1):
         try:
             encoder.line(line)
         except Mistake as mistake:
             raise Mistake("line %d: %s" % (number, mistake)) from None
+        if encoder.case is not None and len(encoder.case.accesses) > len(lines):
+            lines.append(number)
     if encoder.case is None:
         raise Mistake("the text has no `memory` line")
-    return encoder.case.bytes()
+    return encoder.case, lines
+
+
+def encode(text):
+    """The bytes of the case that a text says; Mistake otherwise."""
+    return read_text(text)[0].bytes()
 
 
 def shown_pairs(pairs):

@@ -18,9 +18,9 @@ import os
 import sys
 from collections import Counter
 
-from arbiter import last_line, run
 from randomcases import random_bytes
 from reference import memcase
+from runs import last_line, run
 from storedcases import all_cases
 
 SHOWN = 5

@@ -14,6 +14,7 @@ sys.path.insert(0, os.path.join(os.path.dirname(os.path.abspath(__file__)), os.p
 import rooms  # noqa: F401
 import entrycount
 import wrongcounts
+import wrongorders
 import wrongreads
 import wrongwrites
 from calls import Memory
@@ -81,6 +82,14 @@ def ends_with_status_after_text():
     sys.exit(3)
 
 
+def ends_where_idle():
+    """Ends with a status where a write is idle."""
+    text = right_text()
+    if "idle" in text:
+        sys.exit(4)
+    write(text)
+
+
 def writes_without_end():
     while True:
         write("write 0\n" * 1000)
@@ -127,9 +136,12 @@ WRONG = {
     "counts-asserts-outside-b": (entrycount, "assert_counts", wrongcounts.counted_outside_b),
 }
 
+# Those by which an answer swings when an X becomes known, each by the name of its wrong function.
+WRONG.update({wrong[2].__name__.replace("_", "-"): wrong for wrong in wrongorders.SWINGING})
+
 WAYS = [right, loses_unknown, hangs, hangs_after_text, hangs_with_output_closed, leaves_child, ends_by_signal,
-        ends_with_status, ends_with_status_after_text, writes_without_end, complains, complains_without_end, breaks_off,
-        refuses_after_text, reads_nothing, writes_nothing]
+        ends_with_status, ends_with_status_after_text, ends_where_idle, writes_without_end, complains,
+        complains_without_end, breaks_off, refuses_after_text, reads_nothing, writes_nothing]
 
 
 def main(way):

@@ -43,7 +43,7 @@ module _ (m : Meaning) (n : ℕ) where
   cleared-stands s true H N = clear-keep {s = begin (s .rec)} (standard-is (s .words) (s .rec .count) (H .two)) N
   cleared-stands s false H N = N
 
-  step-stands : (c : Call) (s : State) → Valid s → StandsIn m n s → StandsIn m n (step c s .after)
+  pub step-stands : (c : Call) (s : State) → Valid s → StandsIn m n s → StandsIn m n (step c s .after)
   unfolding StaysValid SuccessLeaves RefusalLeaves
   step-stands c s H N = go (step c s .answer) refl
     where

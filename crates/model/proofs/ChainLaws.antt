@@ -17,22 +17,22 @@ use Rattle.model.proofs.Demand3.{demand3, from-fresh}
 use Rattle.model.proofs.CountLaws.{count-exactly}
 use Rattle.model.specs.Pairs.{bit}
 
-calls : List Link → List Call
+pub calls : List Link → List Call
 calls [] = []
 calls (k ∷ ks) = k .call ∷ calls ks
 
-chain-run : (s : State) (ks : List Link) → Chained s ks → run (calls ks) s ≡ lastState s ks
+pub chain-run : (s : State) (ks : List Link) → Chained s ks → run (calls ks) s ≡ lastState s ks
 unfolding run calls
 chain-run s [] C = refl
 chain-run s (k ∷ ks) C = ap (λ (x : Result). run (calls ks) (x .after)) (C .0) ∙ chain-run (k .after) ks (C .1)
 
-chain-fed : (s : State) (ks : List Link) → Chained s ks → fed s (calls ks) ≡ fedOf s ks
+pub chain-fed : (s : State) (ks : List Link) → Chained s ks → fed s (calls ks) ≡ fedOf s ks
 unfolding calls
 chain-fed s [] C = refl
 chain-fed s (k ∷ ks) C =
     ap (λ (x : Result). (λ (φ : ℕ → Bool). event φ s (k .call) (x .answer)) ∷ fed (x .after) (calls ks)) (C .0) ∙ ap (λ (es : List Fed). (λ (φ : ℕ → Bool). event φ s (k .call) (k .answer)) ∷ es) (chain-fed (k .after) ks (C .1))
 
-chain-may : (φ : ℕ → Bool) (s : State) (ks : List Link) (j i : ℕ) (b : Bool) → Chained s ks → May φ s (calls ks) j i b ≡ MayBe φ ks j i b
+pub chain-may : (φ : ℕ → Bool) (s : State) (ks : List Link) (j i : ℕ) (b : Bool) → Chained s ks → May φ s (calls ks) j i b ≡ MayBe φ ks j i b
 unfolding calls
 chain-may φ s [] j i b C = refl
 chain-may φ s (k ∷ ks) zero i b C = ap (λ (x : Result). BitMay φ (x .after .words) (x .answer) i b) (C .0)
@@ -57,12 +57,12 @@ chain-from s B ks C a h =
     }
 
 -- an answer numbered 0 is the accepted one
-accepted-zero : (k : ℕ) → numbered k ≡ done accepted → k ≡ 0
+pub accepted-zero : (k : ℕ) → numbered k ≡ done accepted → k ≡ 0
 accepted-zero zero e = refl
 accepted-zero (suc k) e = absurd (true≢false (ap isRefused e))
 
 -- an accepted Fresh leaves a state in which lists of calls may begin
-fresh-begins : (given : Record) (n w : ℕ) (ws ps : List ℕ) (s : State) → freshed (fresh given n w ws ps) ≡ (done accepted, s .rec, s .words, s .ports) → Begins s
+pub fresh-begins : (given : Record) (n w : ℕ) (ws ps : List ℕ) (s : State) → freshed (fresh given n w ws ps) ≡ (done accepted, s .rec, s .words, s .ports) → Begins s
 unfolding FromFresh
 fresh-begins given n w ws ps s e =
     let x = fresh given n w ws ps in

@@ -25,11 +25,11 @@ use Rattle.model.proofs.FactLaws.{fresh-told}
 use Rattle.model.proofs.StepLaws.{isLeftOut, same-list, Holds, PortsMean, Follows, step-follows, port-is}
 
 -- the list of calls goes on telling what the published run of its events does
-record Traced (σ : ℕ → Bool) (n w : ℕ) (cs : List Call) (s : State) (g : Held) : Type 0 where
-  accepted : AllAccepted n w (events σ s cs)
-  bits : (j i : ℕ) → i < w → (b : Bool) → May σ s cs j i b ↔ RunMay n w g (events σ s cs) j i b
-  ports : (p i : ℕ) → p < 4 → i < w → pairAt σ (run cs s .words) (heldWord (run cs s .rec) (run cs s .ports) p) i ≡ heldAfterAll n w g (events σ s cs) .ports p i
-  condition : value (run cs s .words) σ (run cs s .rec .checked) ≡ heldAfterAll n w g (events σ s cs) .condition
+pub record Traced (σ : ℕ → Bool) (n w : ℕ) (cs : List Call) (s : State) (g : Held) : Type 0 where
+  pub accepted : AllAccepted n w (events σ s cs)
+  pub bits : (j i : ℕ) → i < w → (b : Bool) → May σ s cs j i b ↔ RunMay n w g (events σ s cs) j i b
+  pub ports : (p i : ℕ) → p < 4 → i < w → pairAt σ (run cs s .words) (heldWord (run cs s .rec) (run cs s .ports) p) i ≡ heldAfterAll n w g (events σ s cs) .ports p i
+  pub condition : value (run cs s .words) σ (run cs s .rec .checked) ≡ heldAfterAll n w g (events σ s cs) .condition
 
 -- two memories that tell the same answer the same
 same-now : (n w : ℕ) (s t : Held) → SameHeld w s t → (e : Event) (i : ℕ) → i < w → (b : Bool) → NowMay n s e i b ↔ NowMay n t e i b
@@ -84,14 +84,17 @@ begins-holds s B σ =
       checked = record { below = omega (arith, B .checked); from = rw (B .checked) (from-1 8 (B .standard) (omega arith)); is = λ f τ k. ap (value (s .words) τ) (B .checked) ∙ value-1 (s .words) τ };
     }
 
+-- and the whole list tells what its published run does, from no entries on
+pub begins-traced : (s : State) → Begins s → (cs : List Call) (a : ℕ) → a < 2 ^ 64 → Traced (bitAt a) (s .rec .n) (s .rec .w) cs s holdsNothing
+begins-traced s B cs a small =
+    traced a small (s .rec .n) (s .rec .w) cs s holdsNothing holdsNothing refl refl (begins-holds s B (bitAt a)) (ap length (B .ports) ∙ length-replicate {A = ℕ} 128 1) (fresh-ports s B (bitAt a)) (same-itself (s .rec .w) holdsNothing)
+
 pub demand3 : Demand3
 unfolding Demand3
 demand3 s B cs a small =
     let n = s .rec .n in
     let w = s .rec .w in
-    let H = begins-holds s B (bitAt a) in
-    let P : PortsMean (bitAt a) s (λ p i. X) = fresh-ports s B (bitAt a) in
-    let R = traced a small n w cs s holdsNothing holdsNothing refl refl H (ap length (B .ports) ∙ length-replicate {A = ℕ} 128 1) P (same-itself w holdsNothing) in
+    let R = begins-traced s B cs a small in
     let es = events (bitAt a) s cs in
     let C = checks-exact n w es (R .accepted) in
     record {

@@ -1,0 +1,52 @@
+-- Of two lists of accepted accesses alone, those of one number are matched.
+use mathlib.Core.Path.{sym, subst}
+use mathlib.Core.Bool.{Bool}
+use mathlib.Core.List.{List, [], _∷_}
+use Prim.Native.Nat.{ℕ, zero, suc, _<_, zero-le, suc-le-suc}
+use native.Mathlib.Nat.{le-of-suc-le-suc, not-suc-le-zero}
+use lib.ListN.{length}
+use Rattle.model.specs.Step.{State, Call, step}
+use Rattle.model.specs.Array.{Event, writes, reads, asserts, checks, nothing}
+use Rattle.model.specs.Claims.{events, May}
+use Rattle.sharpening.specs.Sharper.{SharperList, end, both, first, second, Matched}
+use Rattle.sharpening.specs.Claims.{AnswersNarrower, SameNumber}
+
+-- each event is an accepted access
+abbrev pub Accesses : List Event → Type 0
+Accesses [] = Unit {0}
+Accesses (writes c a d ∷ es) = Accesses es
+Accesses (reads p e a ∷ es) = Accesses es
+Accesses (asserts b a d ∷ es) = Accesses es
+Accesses (checks b a d ∷ es) = Accesses es
+Accesses (nothing ∷ es) = ⊥
+
+pub accesses-after : (e : Event) (es : List Event) → Accesses (e ∷ es) → Accesses es
+accesses-after (writes c a d) es q = q
+accesses-after (reads p e a) es q = q
+accesses-after (asserts b a d) es q = q
+accesses-after (checks b a d) es q = q
+accesses-after nothing es q = absurd q
+
+-- of two lists of accesses alone, those of one number are matched
+same-number : (es fs : List Event) (M : SharperList es fs) → Accesses es → Accesses fs → (j : ℕ) → j < length fs → Matched M j j
+same-number [] [] end q q′ j h = absurd (not-suc-le-zero h)
+same-number (e ∷ es) (f ∷ fs) (both m M) q q′ zero h = tt
+same-number (e ∷ es) (f ∷ fs) (both m M) q q′ (suc j) h = same-number es fs M (accesses-after e es q) (accesses-after f fs q′) j (le-of-suc-le-suc h)
+same-number (nothing ∷ es) fs (first M) q q′ j h = absurd q
+same-number es (nothing ∷ fs) (second M) q q′ j h = absurd q′
+
+-- a call that answers a bit is there
+may-there : (φ : ℕ → Bool) (s : State) (cs : List Call) (j i : ℕ) (b : Bool) → May φ s cs j i b → j < length (events φ s cs)
+may-there φ s [] j i b z = absurd z
+may-there φ s (c ∷ cs) zero i b z = suc-le-suc zero-le
+may-there φ s (c ∷ cs) (suc j) i b z = suc-le-suc (may-there φ (step c s .after) cs j i b z)
+
+-- so what holds of those that are matched holds of those of one number
+pub numbered : (φ : ℕ → Bool) (s t : State) (cs ds : List Call) {w : ℕ} (M : SharperList (events φ s cs) (events φ t ds)) → Accesses (events φ s cs) → Accesses (events φ t ds) → {x y : State}
+    → AnswersNarrower φ w (Matched M) (May φ s cs) (May φ t ds) x y → AnswersNarrower φ w SameNumber (May φ s cs) (May φ t ds) x y
+numbered φ s t cs ds M q q′ A =
+    record {
+      bits = λ j k e i h b z. A .bits j k (subst (λ (l : ℕ). Matched M l k) (sym e) (same-number (events φ s cs) (events φ t ds) M q q′ k (may-there φ t ds k i b z))) i h b z;
+      holds = A .holds;
+      checking = A .checking;
+    }

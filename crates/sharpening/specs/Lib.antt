@@ -1,0 +1,4 @@
+pub mod Sharper
+pub mod Replaced
+pub mod Claims
+pub mod Examples

@@ -1,0 +1,143 @@
+"""Runs of a simulator: a command is given a case on its standard input, and what it wrote is kept.
+
+A command is split into words as a shell does it and run without a shell.  Each run has a process group of
+its own, which is killed when the run is over.
+"""
+
+import math
+import os
+import selectors
+import shlex
+import shutil
+import signal
+import subprocess
+import tempfile
+import time
+from collections import namedtuple
+
+from reference import TEXT_BYTES
+
+HUNG, CRASHED = "hung", "crashed"
+
+READ_BYTES = 65536
+KEPT_ERROR_BYTES = 4096
+POLL_SECONDS = 0.005
+SHOWN_BYTES = 72
+
+# What a run wrote, at most one byte more than the longest text; HUNG, CRASHED or None;
+# how it failed, in words; and the end of what it wrote to standard error.
+Run = namedtuple("Run", "out failure how errors", defaults=(b"",))
+
+
+class Misuse(Exception):
+    """A tool cannot do what it is asked to, with the reason."""
+
+
+def has_ended(process):
+    """Whether the process has ended; it is not collected, so its group's number stays taken."""
+    return os.waitid(os.P_PID, process.pid, os.WEXITED | os.WNOHANG | os.WNOWAIT) is not None
+
+
+def follow(process, deadline):
+    """Read what the process writes until the run is over; its output, whether that is
+    closed, and the end of its standard error."""
+    out, errors, closed = bytearray(), b"", False
+    with selectors.DefaultSelector() as selector:
+        selector.register(process.stdout, selectors.EVENT_READ)
+        selector.register(process.stderr, selectors.EVENT_READ)
+        while len(out) <= TEXT_BYTES and not (closed and has_ended(process)):
+            left = deadline - time.monotonic()
+            if left <= 0:
+                break
+            for key, _ in selector.select(min(left, POLL_SECONDS) if closed else left):
+                data = os.read(key.fd, READ_BYTES)
+                if not data:
+                    selector.unregister(key.fileobj)
+                    closed = closed or key.fileobj is process.stdout
+                elif key.fileobj is process.stdout:
+                    out += data
+                else:
+                    errors = (errors + data)[-KEPT_ERROR_BYTES:]
+    return bytes(out[:TEXT_BYTES + 1]), closed, errors
+
+
+def rest_of(stream):
+    """What is in the pipe at once, at most one read of it."""
+    os.set_blocking(stream.fileno(), False)
+    try:
+        return os.read(stream.fileno(), READ_BYTES)
+    except BlockingIOError:
+        return b""
+
+
+def run(command, data, seconds):
+    """One run of a command with these bytes on its standard input."""
+    deadline = time.monotonic() + seconds
+    with tempfile.TemporaryFile() as case:
+        case.write(data)
+        case.seek(0)
+        process = subprocess.Popen(command, stdin=case, stdout=subprocess.PIPE, stderr=subprocess.PIPE,
+                                   start_new_session=True)
+    with process.stdout, process.stderr:
+        try:
+            out, closed, errors = follow(process, deadline)
+            ended = has_ended(process)
+        finally:
+            os.killpg(process.pid, signal.SIGKILL)
+            process.wait()
+        errors += rest_of(process.stderr)
+    if len(out) > TEXT_BYTES:
+        return Run(out, None, None, errors)
+    if ended and process.returncode != 0:
+        return Run(out, CRASHED, ending(process.returncode) + last_line(errors), errors)
+    if ended and closed:
+        return Run(out, None, None, errors)
+    what = "its output was still open" if ended else "it had not ended"
+    return Run(out, HUNG, "%s after %g seconds" % (what, seconds), errors)
+
+
+def ending(status):
+    if status > 0:
+        return "it ended with status %d" % status
+    names = {number.value: " (%s)" % number.name for number in signal.Signals}
+    return "it ended by signal %d%s" % (-status, names.get(-status, ""))
+
+
+def last_line(errors):
+    """The last line of a standard error, as more words to a sentence."""
+    line = errors.strip().split(b"\n")[-1].strip()
+    return ": " + cut(line, 0) if line else ""
+
+
+def escaped(data):
+    """Bytes as printable text, a backslash doubled."""
+    return "".join(chr(byte) if 32 <= byte < 127 and byte != 92 else "\\\\" if byte == 92 else "\\x%02x" % byte
+                   for byte in data)
+
+
+def cut(data, start):
+    """The bytes from `start` on as far as they are shown."""
+    end = start + SHOWN_BYTES
+    return (".." if start else "") + escaped(data[start:end]) + (".." if end < len(data) else "")
+
+
+def words_of(command):
+    """A command as the words that are run."""
+    try:
+        words = shlex.split(command)
+    except ValueError as error:
+        raise Misuse("the command %s cannot be split: %s" % (command, error)) from None
+    if not words:
+        raise Misuse("an empty command")
+    return need_program(words, "")
+
+
+def need_program(words, hint):
+    if shutil.which(words[0]) is None:
+        raise Misuse("no program %s%s" % (words[0], hint))
+    return words
+
+
+def need_seconds(seconds):
+    if not (seconds > 0 and math.isfinite(seconds)):
+        raise Misuse("--seconds must be above 0")
