@@ -24,7 +24,7 @@ use Rattle.reading.specs.Sections as sections
 use Rattle.reading.proofs.AccessLaws.{access-lies}
 use Rattle.reading.proofs.SectionLaws.{sections-read, sections-begin}
 use Rattle.cases.specs.Case.{Running, Next, one, Ended, ended, stopped, last, after, rest, afterSections, whole, accepts, Case, closed, caseOf}
-use Rattle.cases.specs.Claims.{callsFrom, endFrom, callsIn, stateIn, AllAccepted, linesOf, SectionsReady, AllStand, CaseText, CaseExactly}
+use Rattle.cases.specs.Claims.{Printed, callsFrom, endFrom, callsIn, stateIn, AllAccepted, linesOf, SectionsReady, AllStand, CaseText, CaseExactly}
 use Rattle.cases.proofs.LastLaws.{last-left, last-printed}
 use Rattle.cases.proofs.WayLaws.{callHere, afterOne, Way, goesOn, isOver, isRefusedBy, isMissing, way}
 
@@ -181,13 +181,19 @@ case-begins file words list text k r e =
     let E = case-ends file words list text k r e in
     whole-began file words list text (E .state) (E .text-end) (E .is) .begins
 
+-- the check condition of the record that was answered, in the node words that were left, is that of the calls' run
+pub case-condition : (file words list text : List ℕ) (k : ℕ) (r : Record) → Printed file words list text k r (caseOf file words list text) → (φ : ℕ → Bool)
+    → let t = run (callsIn file) (stateIn file words list) in value (caseOf file words list text .words) φ (r .checked) ≡ value (t .words) φ (t .rec .checked)
+case-condition file words list text k r P φ =
+    let t = run (callsIn file) (stateIn file words list) in
+    ap (λ (x : List ℕ). value x φ (r .checked)) (P .nodes) ∙ ap (λ (x : Record). value (t .words) φ (x .checked)) (P .last)
+
 pub case-exactly : CaseExactly
 unfolding CaseExactly CaseText Demand3
 case-exactly file words list text k r e a small =
     let P = case-text file words list text k r e in
     let X = demand3 (stateIn file words list) (case-begins file words list text k r e) (callsIn file) a small in
-    let t = run (callsIn file) (stateIn file words list) in
-    let same : value (caseOf file words list text .words) (bitAt a) (r .checked) ≡ value (t .words) (bitAt a) (t .rec .checked) = ap (λ (x : List ℕ). value x (bitAt a) (r .checked)) (P .nodes) ∙ ap (λ (x : Record). value (t .words) (bitAt a) (x .checked)) (P .last) in
+    let same = case-condition file words list text k r P (bitAt a) in
     record {
       calls = X;
       checking = (λ z. X .checking .0 (subst T same z), λ z. subst T (sym same) (X .checking .1 z));

@@ -54,7 +54,7 @@ module _ (w : ℕ) (f : List Bool → ℕ → Pair) (g : ℕ → ℕ → Pair) (
   }
 
 -- at first: any content, and any words in the ports
-X-admits : (b : Bool) → T (admit X b)
+pub X-admits : (b : Bool) → T (admit X b)
 X-admits true = tt
 X-admits false = tt
 

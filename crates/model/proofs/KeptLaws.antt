@@ -28,7 +28,8 @@ pair-same p q f g =
     let ls : p .l ≡ q .l = bool-same (p .l) (q .l) (f false) (g false) in
     λ i. record { h = hs i; l = ls i }
 
-over-off : (m u : Bool) (e r : Pair) → cond (m && (false && u)) e (cond (m && (false || false && not u)) (union e r) r) ≡ r
+-- an entry whose control may not be 1 leaves what was there
+pub over-off : (m u : Bool) (e r : Pair) → cond (m && (false && u)) e (cond (m && (false || false && not u)) (union e r) r) ≡ r
 over-off true u e r = refl
 over-off false u e r = refl
 

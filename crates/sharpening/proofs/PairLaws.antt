@@ -4,14 +4,11 @@ use mathlib.Core.Bool.{Bool, true, false, _||_}
 use mathlib.Core.List.{List, [], _∷_}
 use Prim.Native.Nat.{ℕ, zero, suc}
 use lib.Dec.{T}
-use Rattle.model.specs.Pairs.{Pair, X, legal, known, admit, admits, unique, at}
+use Rattle.model.specs.Pairs.{Pair, legal, known, admit, admits, unique, at}
 use Rattle.model.proofs.PairLaws.{and-left, and-right, and-both}
+use Rattle.model.proofs.ExactLaws.{X-admits}
 use Rattle.sharpening.specs.Sharper.{Sharper, alike, settled, AllSharper}
 use Rattle.sharpening.specs.Claims.{Narrower, SharperIsNarrower}
-
-X-admits : (b : Bool) → T (admit X b)
-X-admits true = tt
-X-admits false = tt
 
 pub sharper-narrower : {p q : Pair} → Sharper p q → Narrower p q
 sharper-narrower alike b t = t

@@ -1,13 +1,14 @@
 -- The published meaning, pair by pair: an entry over what a location held, looks, answers over what a port held, checks.
 use mathlib.Core.Path.{_≡_, refl, sym, ap, subst}
-use mathlib.Core.Bool.{Bool, true, false, _&&_, _||_, not, cond, true≢false}
+use mathlib.Core.Bool.{Bool, true, false, _&&_, _||_, not, true≢false}
 use mathlib.Core.List.{List}
 use Prim.Native.Nat.{ℕ, _<_}
 use lib.Dec.{T}
 use lib.ListN.{length}
 use Rattle.model.specs.Pairs.{Pair, legal, admit, admits, unique, at}
-use Rattle.model.specs.Published.{Entry, entry, union, over, look, holding, answer, checkHolds}
+use Rattle.model.specs.Published.{Entry, entry, over, look, holding, answer, checkHolds}
 use Rattle.model.proofs.PairLaws.{and-left, and-right, and-both, or-left, or-right, either, look-to, look-from, inside-to, inside-from, over-is}
+use Rattle.model.proofs.KeptLaws.{over-off}
 use Rattle.sharpening.specs.Sharper.{Sharper, alike, settled, AllSharper}
 use Rattle.sharpening.specs.Claims.{Narrower, NarrowerCells, PublishedNarrower}
 use Rattle.sharpening.proofs.PairLaws.{sharper-narrower, sharper-at, sharper-admits, unique-stays, place-stays, legal-before}
@@ -63,15 +64,11 @@ module _ (c c′ : Pair) (a a′ d d′ : List Pair) (fc : Sharper c c′) (fa :
       subst T (sym (over-is c (legal-before fc lc) a d x i r b))
       (holds-before x i r r′ fr b (subst T (over-is c′ lc a′ d′ x i r′ b) t))
 
--- an entry whose control is neither does nothing
-neither-over : (m u : Bool) (e r : Pair) → cond (m && (false && u)) e (cond (m && (false || false && not u)) (union e r) r) ≡ r
-neither-over true u e r = refl
-neither-over false u e r = refl
-
+-- an entry whose control is neither leaves what was there
 neither-narrower : (a a′ d d′ : List Pair) (x : List Bool) (i : ℕ) (r r′ : Pair) → Narrower r r′ → Narrower (over (entry neither a d) x i r) (over (entry neither a′ d′) x i r′)
 neither-narrower a a′ d d′ x i r r′ fr b t =
-    subst (λ (p : Pair). T (admit p b)) (sym (neither-over (admits a x) (unique a) (at d i) r))
-    (fr b (subst (λ (p : Pair). T (admit p b)) (neither-over (admits a′ x) (unique a′) (at d′ i) r′) t))
+    subst (λ (p : Pair). T (admit p b)) (sym (over-off (admits a x) (unique a) (at d i) r))
+    (fr b (subst (λ (p : Pair). T (admit p b)) (over-off (admits a′ x) (unique a′) (at d′ i) r′) t))
 
 pub entry-narrower : (c c′ : Pair) (a a′ d d′ : List Pair) → Sharper c c′ → AllSharper a a′ → AllSharper d d′ → (x : List Bool) (i : ℕ) (r r′ : Pair) → Narrower r r′ → Narrower (over (entry c a d) x i r) (over (entry c′ a′ d′) x i r′)
 entry-narrower c c′ a a′ d d′ fc fa fd = go (c′ .h) (c′ .l) fc

@@ -10,7 +10,7 @@ use Rattle.conditions.proofs.Promises.{value-0, value-1}
 use Rattle.model.specs.Pairs.{Pair}
 use Rattle.model.specs.Record.{Record, hAt, lAt}
 use Rattle.model.specs.Step.{State, Access, write, read, assert, check, Call, access, Answer, refused, done, isRefused, step}
-use Rattle.model.specs.Array.{Event, asserts, checks}
+use Rattle.model.specs.Array.{asserts, checks}
 use Rattle.model.specs.Claims.{pairsFrom, pairs, argument, event, events}
 use Rattle.model.specs.Frames.{SuccessLeaves, Valid}
 use Rattle.model.specs.Table.{Names, AcceptedExactly}
@@ -23,7 +23,7 @@ use Rattle.sharpening.specs.Sharper as sharper
 use Rattle.sharpening.specs.Replaced.{ReplacedPair, same, by1, by0, Replaced, Named, ReplacedAccess, of-write, of-read, of-assert, of-check, ReplacedCalls, then}
 use Rattle.sharpening.specs.Replaced as replaced
 use Rattle.sharpening.specs.Claims.{Replacing, Sharpening}
-use Rattle.sharpening.proofs.NumberLaws.{Accesses, numbered}
+use Rattle.sharpening.proofs.NumberLaws.{AllAccesses, numbered}
 use Rattle.sharpening.proofs.CallLaws.{sharpening}
 
 -- a state that calls led to from s: n and w are as there, and what stood there means what it meant
@@ -117,29 +117,14 @@ module _ (φ : ℕ → Bool) {s : State} where
 pub replaced-sharper : (φ : ℕ → Bool) (s t : State) → t .rec ≡ s .rec → t .words ≡ s .words → (cs ds : List Call) → ReplacedCalls s cs ds → AllAccepted cs s → AllAccepted ds t → SharperList (events φ s cs) (events φ t ds)
 replaced-sharper φ s t er ew cs ds R A B = calls-sharper φ s t (keeps-first s s refl refl) (keeps-first s t er ew) cs ds R A B
 
--- accesses alone
-event-access : (φ : ℕ → Bool) (t : State) (c : Access) (x : Answer) → isRefused x ≡ false → (es : List Event) → Accesses es → Accesses (event φ t (access c) x ∷ es)
-event-access φ t c (refused k) f es q = absurd (true≢false f)
-event-access φ t (write c a d) (done g) f es q = q
-event-access φ t (read p e a out) (done g) f es q = q
-event-access φ t (assert b a d) (done g) f es q = q
-event-access φ t (check b a d) (done g) f es q = q
-
-first-accesses : (φ : ℕ → Bool) (s t : State) (cs ds : List Call) → ReplacedCalls s cs ds → AllAccepted cs t → Accesses (events φ t cs)
-first-accesses φ s t [] [] replaced.end A = tt
-first-accesses φ s t (access c ∷ cs) (access d ∷ ds) (then R Rs) A =
-    let x = step (access c) t in
-    event-access φ t c (x .answer) (A .0) (events φ (x .after) cs) (first-accesses φ s (x .after) cs ds Rs (A .1))
-
-second-accesses : (φ : ℕ → Bool) (s t : State) (cs ds : List Call) → ReplacedCalls s cs ds → AllAccepted ds t → Accesses (events φ t ds)
-second-accesses φ s t [] [] replaced.end A = tt
-second-accesses φ s t (access c ∷ cs) (access d ∷ ds) (then R Rs) A =
-    let x = step (access d) t in
-    event-access φ t d (x .answer) (A .0) (events φ (x .after) ds) (second-accesses φ s (x .after) cs ds Rs (A .1))
+-- all calls of such lists are accesses
+replaced-accesses : {s : State} (cs ds : List Call) → ReplacedCalls s cs ds → AllAccesses cs × AllAccesses ds
+replaced-accesses [] [] replaced.end = (tt, tt)
+replaced-accesses (access c ∷ cs) (access d ∷ ds) (then R Rs) = let A = replaced-accesses cs ds Rs in ((tt, A .0), (tt, A .1))
 
 pub replacing : Replacing
 unfolding Replacing Sharpening
 replacing s t B C er ew cs ds R A A′ a small =
     let M = replaced-sharper (bitAt a) s t er ew cs ds R A A′ in
-    numbered (bitAt a) s t cs ds M (first-accesses (bitAt a) s s cs ds R A) (second-accesses (bitAt a) s t cs ds R A′)
-    (sharpening s t B C (ap (λ (r : Record). r .n) er) (ap (λ (r : Record). r .w) er) cs ds a small M)
+    let q = replaced-accesses cs ds R in
+    numbered (bitAt a) s t cs ds (q .0) (q .1) A A′ M (sharpening s t B C (ap (λ (r : Record). r .n) er) (ap (λ (r : Record). r .w) er) cs ds a small M)
