@@ -417,8 +417,8 @@ class DiagramsTest(unittest.TestCase):
             for a in rows:
                 x, y, z = (d.value(one, a) for one in (f, g, h))
                 self.assertEqual([d.value(one, a) for one in (d.ite(f, g, h), d.not_(f), d.and_(f, g), d.or_(f, g),
-                                                              d.but_not(f, g), d.equal(f, g))],
-                                 [y if x else z, not x, x and y, x or y, x and not y, x == y])
+                                                              d.but_not(f, g))],
+                                 [y if x else z, not x, x and y, x or y, x and not y])
             self.assertEqual(d.text(f) == d.text(g), f == g)
             self.assertEqual(d.condition_at(" " + d.text(f), 1), (f, d.length(f) + 1))
             self.assertEqual(text_value(d.text(f), rows[0]), d.value(f, rows[0]))

@@ -98,9 +98,6 @@ class Diagrams:
     def but_not(self, f, g):
         return self.ite(g, FALSE, f)
 
-    def equal(self, f, g):
-        return self.ite(f, g, self.not_(g))
-
     def value(self, f, assignment):
         """Whether a condition holds, bit v of the assignment being variable v."""
         while f > TRUE:
