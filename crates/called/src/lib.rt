@@ -19,10 +19,10 @@ pub fn node_call(x: Item, r: [u32; 6], nodes: &mut [u32], ports: &mut [u32; 128]
     let mut out: u32 = 7;
     let kind = x.kind;
     let row = match kind {
-        5 => capi::md_fresh(&mut record, x.b, x.c, nodes, ports),
-        6 => capi::md_evaluate(&record, nodes, x.b, joined(x.c, x.d), &mut out),
-        7 => capi::md_variable(&mut record, nodes, x.b, &mut out),
-        _ => capi::md_ite(&mut record, nodes, x.b, x.c, x.d, &mut out),
+        5 => capi_nodes::md_fresh(&mut record, x.b, x.c, nodes, ports),
+        6 => capi_nodes::md_evaluate(&record, nodes, x.b, joined(x.c, x.d), &mut out),
+        7 => capi_nodes::md_variable(&mut record, nodes, x.b, &mut out),
+        _ => capi_nodes::md_ite(&mut record, nodes, x.b, x.c, x.d, &mut out),
     };
     Done { row, out, record }
 }

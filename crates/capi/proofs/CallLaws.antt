@@ -1,58 +1,16 @@
--- A call by the record that six words are, and the record written back.
-use mathlib.Core.Path.{_≡_, refl, sym, ap, _∙_}
-use mathlib.Core.Bool.{Bool, true, false, cond}
-use mathlib.Core.List.{List, []}
-use Prim.Native.Nat.{ℕ, zero, suc}
-use mir.Val.{boolByte}
-use Rattle.model.specs.Record as model
-use Rattle.model.specs.Step.{evaluate, read, Call, access, nodeCall, Answer, Result, step, answerWords, fresh}
-use Rattle.model.specs.Chain.{Answered}
+-- A read by the record that six words are, its port and its answer words.
+use mathlib.Core.Path.{_≡_, ap, _∙_}
+use mathlib.Core.List.{List}
+use Prim.Native.Nat.{ℕ}
+use Rattle.model.specs.Step.{read, access, answerWords}
 use Rattle.memory.specs.declared.Record.{Record}
-use Rattle.memory.specs.declared.ValueAnswer.{ValueAnswer}
-use Rattle.memory.specs.declared.ValueAnswer.the-variants as value
 use Rattle.memory.specs.declared.ReadAnswer.{ReadAnswer}
 use Rattle.memory.specs.declared.ReadAnswer.the-variants as reads
-use Rattle.memory.specs.Contract.{recordOf, stateOf, numbered, readAnswer, valueAnswer, AnswersNoList, ReadAnswers}
-use Rattle.memory.specs.Contract as memory
+use Rattle.memory.specs.Contract.{recordOf, readAnswer, ReadAnswers}
 use Rattle.record_words.specs.Words.{recordIn, wordsOf}
-use Rattle.capi.specs.Contract.{numberOf, outOf, left, leftBy, called, evaluatedBy, evaluated, freshed}
+use Rattle.record_words.specs.Calls.{numberOf, left, called}
+use Rattle.record_words.proofs.CallLaws.{call-is}
 
--- a call of memory from the record m, which the words r are, to m′, of which r′ are the words; its answer x is y
-pub call-is : {A : Type 0} (g : A → Answer) {x y : A} (c : Call) {m m′ : Record} {r′ w′ l′ ps′ : List ℕ} (r w l ps a : List ℕ) (v : ℕ)
-    → x ≡ y
-    → recordOf m ≡ recordIn r
-    → Answered c (stateOf m w l ps) (stateOf m′ w′ l′ ps′) (g x)
-    → r′ ≡ wordsOf (recordOf m′)
-    → left (numberOf (g y)) r′ w′ l′ ps′ (answerWords (g y) a) (outOf (g y) v) ≡ called c r w l ps a v
-unfolding called
-call-is g {x} {y} c {m} {m′} {r′} {w′} {l′} {ps′} r w l ps a v e i n o =
-    ap (λ (z : List ℕ). left (numberOf (g y)) z w′ l′ ps′ (answerWords (g y) a) (outOf (g y) v)) o
-    ∙ sym (ap (λ (z : _). leftBy (record { answer = g z; after = stateOf m′ w′ l′ ps′ }) a v) e)
-    ∙ sym (ap (λ (z : Result). leftBy z a v) n)
-    ∙ ap (λ (z : model.Record). leftBy (step c (record { rec = z; words = w; list = l; ports = ps })) a v) i
-
--- evaluate writes no record back
-pub evaluate-is : {A : Type 0} (g : A → Answer) {x y : A} (f φ : ℕ) {m m′ : Record} (r w : List ℕ) (v : ℕ)
-    → x ≡ y
-    → recordOf m ≡ recordIn r
-    → AnswersNoList (evaluate f φ) m w m′ w (g x)
-    → (numberOf (g y), outOf (g y) v) ≡ evaluated f φ r w v
-unfolding evaluated
-evaluate-is g f φ r w v e i n = ap evaluatedBy (call-is g (nodeCall (evaluate f φ)) r w [] [] [] v e i (n [] []) refl)
-
--- the number that a truth value is
-as-number : (t : Bool) → boolByte t ≡ cond t 1 0
-as-number true = refl
-as-number false = refl
-
-pub value-is : {x : ValueAnswer} {b : Bool} (f φ : ℕ) {m m′ : Record} (r w : List ℕ) (v : ℕ)
-    → x ≡ value.Value b
-    → recordOf m ≡ recordIn r
-    → AnswersNoList (evaluate f φ) m w m′ w (valueAnswer x)
-    → (0, boolByte b) ≡ evaluated f φ r w v
-value-is {b = b} f φ r w v e i n = ap (λ (z : ℕ). (0, z)) (as-number b) ∙ evaluate-is valueAnswer f φ r w v e i n
-
--- a read, its port and its answer words
 pub read-is : {x : ReadAnswer} (y : ReadAnswer) {m m′ : Record} {r′ w′ ps′ a′ : List ℕ} (r w l ps : List ℕ) (p : ℕ) (e d a : List ℕ)
     → x ≡ y
     → recordOf m ≡ recordIn r
@@ -63,22 +21,3 @@ read-is reads.Filled {a′ = a′} r w l ps p e d a q i n o = call-is (λ (z : R
 read-is {x} (reads.Refused k) {r′ = r′} {w′ = w′} {ps′ = ps′} {a′ = a′} r w l ps p e d a q i n o =
     ap (λ (z : List ℕ). left k r′ w′ l ps′ z 0) (n .leaves ∙ ap (λ (z : ReadAnswer). answerWords (readAnswer z a′) a) q)
     ∙ call-is (λ (z : ReadAnswer). readAnswer z a′) (access (read p e d a)) r w l ps a 0 q i (n .is) o
-
-number-back : (k : ℕ) → numberOf (numbered k) ≡ k
-number-back zero = refl
-number-back (suc k) = refl
-
--- Fresh
-pub fresh-is : {A : Type 0} (g : A → Answer) {x y : A} (n k : ℕ) {m m′ : Record} {r′ w′ ps′ : List ℕ} (r w ps : List ℕ)
-    → x ≡ y
-    → recordOf m ≡ recordIn r
-    → memory.freshed (fresh (recordOf m) n k w ps) ≡ (g x, recordOf m′, w′, ps′)
-    → r′ ≡ wordsOf (recordOf m′)
-    → (numberOf (g y), r′, w′, ps′) ≡ freshed n k r w ps
-unfolding freshed
-fresh-is g {x} {y} n k {m} {m′} {r′} {w′} {ps′} r w ps e i f o =
-    ap (λ (z : List ℕ). (numberOf (g y), z, w′, ps′)) o
-    ∙ sym (ap (λ (z : _). (numberOf (g z), wordsOf (recordOf m′), w′, ps′)) e)
-    ∙ sym (ap (λ (z : Answer × model.Record × List ℕ × List ℕ). (numberOf (z .0), wordsOf (z .1), z .2, z .3)) f)
-    ∙ ap (λ (z : ℕ). (z, wordsOf (fresh (recordOf m) n k w ps .rec), fresh (recordOf m) n k w ps .words, fresh (recordOf m) n k w ps .ports)) (number-back (fresh (recordOf m) n k w ps .answer))
-    ∙ ap (λ (z : model.Record). (fresh z n k w ps .answer, wordsOf (fresh z n k w ps .rec), fresh z n k w ps .words, fresh z n k w ps .ports)) i

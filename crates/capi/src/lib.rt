@@ -1,108 +1,17 @@
-// The calls for C: the record is six words, and every function returns 0 for accepted or the row's number.
+// The accesses for C, asserts and checks by a written formula, and the run of a case: the record is six words, and every function returns 0 for accepted or the row's number.
 ghost use mathlib.Core.Path.{_≡_};
 ghost use mathlib.Core.List.{[]};
-ghost use Rattle.model.specs.Step.{ite, write, read, assert, check, access, nodeCall};
-ghost use Rattle.model.specs.Step as step;
+ghost use Rattle.model.specs.Step.{write, read, assert, check, access};
 ghost use Rattle.formula_calls.specs.Call.{asserting, checking};
 ghost use Rattle.formula_words.specs.Contract.{leftFormula, formulaCalled};
-ghost use Rattle.capi.specs.Contract.{left, called, evaluated, freshed, leftCase, cased};
+ghost use Rattle.record_words.specs.Calls.{left, called};
+ghost use Rattle.capi.specs.Contract.{leftCase, cased};
 use access::ControlNode;
 use casefile::CaseAnswer;
 use memory::AssertAnswer;
 use memory::CheckAnswer;
-use memory::FreshAnswer;
-use memory::NodeAnswer;
 use memory::ReadAnswer;
-use memory::ValueAnswer;
 use memory::WriteAnswer;
-
-// Fresh.
-#[no_mangle]
-pub extern "C" fn md_fresh(
-    record: &mut [u32; 6],
-    n: u32,
-    w: u32,
-    nodes: &mut [u32],
-    ports: &mut [u32; 128],
-) -> u32
-    ensures { λ r. ⌜ (r, now («record» .exit), now (nodes .exit), now (ports .exit)) ≡ freshed n w (now («record» .entry)) (now (nodes .entry)) (now (ports .entry)) ⌝ }
-{
-    let x = record_words::record_of(record).fresh(nodes, ports, n, w);
-    record_words::put_record(record, x.after);
-    let answer = x.answer;
-    match answer {
-        FreshAnswer::Accepted => 0,
-        FreshAnswer::Refused(k) => k,
-    }
-}
-
-// The node of a variable.
-#[no_mangle]
-pub extern "C" fn md_variable(
-    record: &mut [u32; 6],
-    nodes: &mut [u32],
-    variable: u32,
-    node: &mut u32,
-) -> u32
-    ensures { λ r. ⌜ left r (now («record» .exit)) (now (nodes .exit)) [] [] [] (now (node .exit)) ≡ called (nodeCall (step.variable variable)) (now («record» .entry)) (now (nodes .entry)) [] [] [] (now (node .entry)) ⌝ }
-{
-    let x = record_words::record_of(record).variable(nodes, variable);
-    record_words::put_record(record, x.after);
-    let answer = x.answer;
-    match answer {
-        NodeAnswer::Node(k) => {
-            *node = k;
-            0
-        }
-        NodeAnswer::Refused(k) => k,
-    }
-}
-
-// The node of Ite(f, g, h).
-#[no_mangle]
-pub extern "C" fn md_ite(
-    record: &mut [u32; 6],
-    nodes: &mut [u32],
-    f: u32,
-    g: u32,
-    h: u32,
-    node: &mut u32,
-) -> u32
-    ensures { λ r. ⌜ left r (now («record» .exit)) (now (nodes .exit)) [] [] [] (now (node .exit)) ≡ called (nodeCall (ite f g h)) (now («record» .entry)) (now (nodes .entry)) [] [] [] (now (node .entry)) ⌝ }
-{
-    let x = record_words::record_of(record).ite(nodes, f, g, h);
-    record_words::put_record(record, x.after);
-    let answer = x.answer;
-    match answer {
-        NodeAnswer::Node(k) => {
-            *node = k;
-            0
-        }
-        NodeAnswer::Refused(k) => k,
-    }
-}
-
-// The value of a node under a 64-bit assignment: 0 or 1.
-#[no_mangle]
-pub extern "C" fn md_evaluate(
-    record: &[u32; 6],
-    nodes: &[u32],
-    node: u32,
-    assignment: u64,
-    value: &mut u32,
-) -> u32
-    ensures { λ r. ⌜ (r, now (value .exit)) ≡ evaluated node assignment (now («record» .entry)) (now (nodes .entry)) (now (value .entry)) ⌝ }
-{
-    let x = record_words::record_of(record).evaluate(nodes, node, assignment);
-    let answer = x.answer;
-    match answer {
-        ValueAnswer::Value(b) => {
-            *value = b as u32;
-            0
-        }
-        ValueAnswer::Refused(k) => k,
-    }
-}
 
 // Write: the place of the entry, or 4294967295 for an idle write.
 #[no_mangle]

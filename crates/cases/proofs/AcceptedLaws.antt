@@ -9,10 +9,10 @@ use lib.ListN.{length}
 use Rattle.text.specs.Text.{Out, appended}
 use Rattle.text.proofs.TextLaws.{appended-append, appended-full, appended-fits}
 use Rattle.lines.specs.Lines.{endLine}
-use Rattle.model.specs.Step.{step, run}
+use Rattle.model.specs.Step.{step, run, AllAccepted}
 use Rattle.reading.specs.Sections.{Sections, sections, accessesIn}
 use Rattle.cases.specs.Case.{lineOf, Running, Next, ended, stopped, after, rest, afterSections, whole, accepts, Case}
-use Rattle.cases.specs.Claims.{callsFrom, endFrom, callsIn, stateIn, AllAccepted, linesOf, SectionsReady, AllStand, CaseAccepted}
+use Rattle.cases.specs.Claims.{callsFrom, endFrom, callsIn, stateIn, linesOf, SectionsReady, AllStand, CaseAccepted}
 use Rattle.cases.proofs.LastLaws.{last-printed}
 use Rattle.cases.proofs.WayLaws.{callHere, afterOne, one-done}
 use Rattle.cases.proofs.CaseLaws.{same-sizes, start, begun, case-left}

@@ -14,7 +14,7 @@ use Rattle.lines.specs.Lines.{endLine}
 use Rattle.conditions.specs.Value.{value}
 use Rattle.conditions.specs.Assignment.{bitAt}
 use Rattle.model.specs.Record.{Record, freshPorts}
-use Rattle.model.specs.Step.{State, Call, accepted, isRefused, step, run}
+use Rattle.model.specs.Step.{State, Call, accepted, isRefused, step, run, AllAccepted}
 use Rattle.model.specs.Frames.{SuccessLeaves}
 use Rattle.model.specs.Claims.{Begins, Demand3}
 use Rattle.model.proofs.FrameLaws.{success-leaves}
@@ -24,7 +24,7 @@ use Rattle.reading.specs.Sections as sections
 use Rattle.reading.proofs.AccessLaws.{access-lies}
 use Rattle.reading.proofs.SectionLaws.{sections-read, sections-begin}
 use Rattle.cases.specs.Case.{Running, Next, one, Ended, ended, stopped, last, after, rest, afterSections, whole, accepts, Case, closed, caseOf}
-use Rattle.cases.specs.Claims.{Printed, callsFrom, endFrom, callsIn, stateIn, AllAccepted, linesOf, SectionsReady, AllStand, CaseText, CaseExactly}
+use Rattle.cases.specs.Claims.{Printed, callsFrom, endFrom, callsIn, stateIn, linesOf, SectionsReady, AllStand, CaseText, CaseExactly}
 use Rattle.cases.proofs.LastLaws.{last-left, last-printed}
 use Rattle.cases.proofs.WayLaws.{callHere, afterOne, Way, goesOn, isOver, isRefusedBy, isMissing, way}
 

@@ -11,7 +11,7 @@ use borrow.Author.Tests.{eqb-true, eq-eqb, leb-true}
 use Rattle.nodes.proofs.BoolLaws.{and-both, or-cases, both-and}
 use Rattle.model.specs.Record.{part, freshPorts}
 use Rattle.model.specs.Rows.{Row, firstRow, writeRows, readRows, assertRows, checkRows, evaluateRows}
-use Rattle.model.specs.Step.{State, Call, refused, refusal, Finish, full, short, gives, finish, step, run}
+use Rattle.model.specs.Step.{State, Call, refused, refusal, Finish, full, short, gives, finish, step, run, AllAccepted}
 use Rattle.model.specs.Frames.{Valid, RefusalNumber, NoRow123, RefusedByRow, lateRow, PortsValid, numbers}
 use Rattle.model.proofs.ListLaws.{part-size}
 use Rattle.model.proofs.FrameLaws.{refusal-number, no-row-123}
@@ -28,7 +28,7 @@ use Rattle.reading.proofs.BytesLaws.{numbers-length}
 use Rattle.reading.proofs.RowLaws.{rows-number}
 use Rattle.reading.proofs.SectionLaws.{sections-read, sections-valid, sections-ports-valid}
 use Rattle.cases.specs.Case.{callOf}
-use Rattle.cases.specs.Claims.{stateIn, AllAccepted, SectionsReady, firstCalls, byteAfter, answerAfter, RefusedAt, missing, refusedCall, lineOver, bytesLeft, endOver, CaseRefused, CaseNumber, RefusedNumbers}
+use Rattle.cases.specs.Claims.{stateIn, SectionsReady, firstCalls, byteAfter, answerAfter, RefusedAt, missing, refusedCall, lineOver, bytesLeft, endOver, CaseRefused, CaseNumber, RefusedNumbers}
 use Rattle.cases.proofs.CaseLaws.{same-sizes}
 use Rattle.cases.proofs.RefusedLaws.{case-refused-after}
 

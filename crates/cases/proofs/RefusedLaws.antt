@@ -11,7 +11,7 @@ use borrow.Author.Tests.{ltb-true, ltb-false}
 use Rattle.text.specs.Text.{Out, growing, appended}
 use Rattle.text.proofs.TextLaws.{appended-append, appended-is-full}
 use Rattle.lines.specs.Lines.{endLine}
-use Rattle.model.specs.Step.{accepted, isRefused, step, run}
+use Rattle.model.specs.Step.{accepted, isRefused, step, run, AllAccepted}
 use Rattle.model.specs.Step as model
 use Rattle.reading.specs.Accesses.{accessAt}
 use Rattle.reading.specs.Accesses as accesses
@@ -19,7 +19,7 @@ use Rattle.reading.specs.Sections.{Sections, ready, sections, accessesIn, first
 use Rattle.reading.specs.Sections as sections
 use Rattle.reading.proofs.SectionLaws.{sections-read}
 use Rattle.cases.specs.Case.{lineOf, Running, Next, stops, one, Ended, ended, stopped, last, after, rest, afterSections, whole, refuses, closed, caseOf}
-use Rattle.cases.specs.Claims.{callAt, callsFrom, endFrom, stateIn, AllAccepted, linesOf, SectionsReady, StandsAt, AllStand, accessLines, firstCalls, RefusedAt, missing, refusedCall, lineOver, bytesLeft, endOver, RefusedAfter, CaseRefused}
+use Rattle.cases.specs.Claims.{callAt, callsFrom, endFrom, stateIn, linesOf, SectionsReady, StandsAt, AllStand, accessLines, firstCalls, RefusedAt, missing, refusedCall, lineOver, bytesLeft, endOver, RefusedAfter, CaseRefused}
 use Rattle.cases.proofs.LastLaws.{last-left, last-printed}
 use Rattle.cases.proofs.WayLaws.{callHere, afterOne, StandsHere, answerHere, Way, goesOn, isOver, isRefusedBy, isMissing, way}
 use Rattle.cases.proofs.CaseLaws.{same-sizes, start, begun}

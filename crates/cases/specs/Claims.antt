@@ -3,14 +3,14 @@ use mathlib.Core.Path.{_≡_}
 use mathlib.Core.Logic.{_↔_, _⊎_}
 use mathlib.Core.Bool.{Bool, false}
 use mathlib.Core.List.{List, [], _∷_, _++_}
-use Prim.Native.Nat.{ℕ, zero, suc, _+_, _*_, _^_, _<_, _≤_}
+use Prim.Native.Nat.{ℕ, zero, suc, _+_, _^_, _<_, _≤_}
 use lib.Dec.{T}
 use lib.ListN.{length, getD, drop}
 use Rattle.conditions.specs.Value.{value}
 use Rattle.conditions.specs.Assignment.{bitAt}
 use Rattle.lines.specs.Lines.{writeLine, idleLine, endLine, refusedLine}
 use Rattle.model.specs.Record.{Record, freshPorts}
-use Rattle.model.specs.Step.{State, write, Call, access, Answer, refused, isRefused, step, run}
+use Rattle.model.specs.Step.{State, write, Call, access, Answer, refused, isRefused, step, run, AllAccepted}
 use Rattle.model.specs.Array.{Run, observed, Allowed}
 use Rattle.model.specs.Claims.{fed, events, Exactly}
 use Rattle.model.specs.Table.{NeverOne, MayBeOne}
@@ -44,11 +44,6 @@ callsIn file = callsFrom file (getD file 0 0) (getD file 1 0) (firstAt file) (ac
 -- the state that its sections give, with ports of its own
 abbrev pub stateIn : List ℕ → List ℕ → List ℕ → State
 stateIn file words list = record { rec = recordIn file; words = stored file words; list = list; ports = freshPorts }
-
--- none of the calls is refused
-abbrev pub AllAccepted : List Call → State → Type 0
-AllAccepted [] s = Unit {0}
-AllAccepted (c ∷ cs) s = (isRefused (step c s .answer) ≡ false) × AllAccepted cs (step c s .after)
 
 -- the lines of their answers one after the other, and what is printed after them
 abbrev pub linesThen : (State → List ℕ) → List Call → State → List ℕ

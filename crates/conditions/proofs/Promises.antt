@@ -21,7 +21,7 @@ pub use Rattle.conditions.proofs.MakeLaws.{variable-builds}
 pub use Rattle.conditions.proofs.AnyLaws.{any-builds, some-same}
 pub use Rattle.diagrams.proofs.AssignmentLaws.{change-same, change-other, some-has, some-all}
 -- each assignment to the 64 variables is a 64-bit number
-pub use Rattle.diagrams.proofs.AssignmentLaws.{numberOf, bit-number, number-fits}
+pub use Rattle.diagrams.proofs.AssignmentLaws.{bit-number, number-fits}
 pub use Rattle.diagrams.proofs.ValueLaws.{value-0, value-1}
 -- a store becomes full at its capacity alone
 pub use Rattle.conditions.proofs.FullLaws.{standard-within, pure-fills, next-fills, each-fills, variable-fills, ite-fills, any-fills}
@@ -34,6 +34,8 @@ pub use Rattle.conditions.proofs.UserLaws.{user-is, is-user, user-stand
 pub use Rattle.conditions.proofs.ContractLaws.{zeros-sound}
 -- rows 6 and 7
 pub use Rattle.meets.proofs.MeetLaws.{neither-decides, together-decides}
+-- a witness: the node holds there, or is node 0
+pub use Rattle.diagrams.proofs.WitnessLaws.{witness-holds}
 -- canonicity: the text of a condition, what follows it, and one node for one meaning
 pub use Rattle.show.proofs.ShowLaws.{text-first}
 pub use Rattle.show.proofs.TextClaims.{same-text, text-same, text-exactly, node-same-text, one-node}

@@ -9,6 +9,7 @@ pub mod Table
 pub mod Contract
 pub mod User
 pub mod Show
+pub mod Witness
 pub mod Meet
 pub mod Stores
 pub mod Computing

@@ -10,6 +10,7 @@ ghost use Rattle.conditions.specs.Table.{recallOf, knownOf, rememberOf};
 ghost use Rattle.conditions.specs.Contract.{Sound, Did};
 ghost use Rattle.conditions.specs.User.{isUser};
 pub use diagrams::evaluate;
+pub use diagrams::witness;
 pub use meets::neither;
 pub use meets::together;
 pub use nodes::clear;

@@ -12,7 +12,7 @@ use Rattle.nodes.specs.Words.{varAt, lowAt, highAt}
 use Rattle.nodes.specs.Standard.{Shape, Standard}
 use Rattle.nodes.proofs.BoolLaws.{or-cases, or-left, or-right}
 use Rattle.diagrams.specs.Value.{value}
-use Rattle.diagrams.specs.Assignment.{bitAt, change, some}
+use Rattle.diagrams.specs.Assignment.{bitAt, change, some, numberOf}
 use Rattle.diagrams.proofs.ValueLaws.{value-step, value-end}
 
 pub change-same : (φ : ℕ → Bool) (v : ℕ) (b : Bool) → change φ v b v ≡ b
@@ -52,11 +52,6 @@ some-all (suc k) m φ ψ e t = side (ψ k) refl (λ x. some-all k m (change φ k
         → (some k m (change φ k false) || some k m (change φ k true)) ≡ true
     side false p ih = or-left (some k m (change φ k false)) (some k m (change φ k true)) (ih false (at false p) t)
     side true p ih = or-right (some k m (change φ k false)) (some k m (change φ k true)) (ih true (at true p) t)
-
--- the number whose bits 0 to k - 1 are an assignment's
-unfoldable pub numberOf : (ℕ → Bool) → ℕ → ℕ
-numberOf a zero = 0
-numberOf a (suc k) = cond (a 0) 1 0 + numberOf (λ v. a (suc v)) k * 2
 
 bit-low : (b : Bool) (m : ℕ) → bitAt (cond b 1 0 + m * 2) 0 ≡ b
 unfolding bitAt

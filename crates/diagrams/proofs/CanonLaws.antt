@@ -29,7 +29,7 @@ eval-agree (branch v l h) u r a b e =
 abbrev Same : Tree → Tree → Type 0
 Same s t = (a : ℕ → Bool) → eval a s ≡ eval a t
 
-eval-change : (t : Tree) (v : ℕ) → Reduced (suc v) t → (a : ℕ → Bool) (b : Bool) → eval (change a v b) t ≡ eval a t
+pub eval-change : (t : Tree) (v : ℕ) → Reduced (suc v) t → (a : ℕ → Bool) (b : Bool) → eval (change a v b) t ≡ eval a t
 eval-change t v r a b = eval-agree t (suc v) r (change a v b) a (λ n k. change-other a v b n (omega arith))
 
 -- a child's value is its parent's with the variable changed

@@ -1,11 +1,12 @@
 // What the nodes of a decision diagram mean: a node's value under an assignment, and the parts of three nodes at their least variable.
 ghost use mathlib.Core.Path.{_≡_};
-ghost use Prim.Native.Nat.{_+_, _*_, _<_, min};
+ghost use Prim.Native.Nat.{_+_, _*_, _^_, _<_, min};
 ghost use lib.ListN.{length};
 ghost use Rattle.nodes.specs.Words.{childAt};
 ghost use Rattle.nodes.specs.Standard.{Standard};
 ghost use Rattle.diagrams.specs.Value.{value};
 ghost use Rattle.diagrams.specs.Assignment.{bitAt};
+ghost use Rattle.diagrams.specs.Witness.{witnessOf};
 ghost use Rattle.diagrams.specs.Parts.{partOf, partsOf};
 ghost use Rattle.diagrams.specs.Keys.{keyOf, slotOf};
 
@@ -111,4 +112,31 @@ pub fn evaluate(words: &[u32], count: u32, node: u32, a: u64) -> bool
         n = child(words, bit(a, v), n);
     }
     n == 1
+}
+
+// The number that has bit v alone.
+fn power(v: u32) -> u64
+    requires { ⌜ v < 64 ⌝ }
+    ensures { λ r. ⌜ r ≡ 2 ^ v ⌝ }
+{
+    1u64 << v
+}
+
+// An assignment under which a node holds, unless it is node 0: down to the low child, and where that is node 0 to the high child.
+pub fn witness(words: &[u32], count: u32, node: u32) -> u64
+    requires { ⌜ Standard (now words) count × (node < count) ⌝ }
+    ensures { λ r. ⌜ r ≡ witnessOf (now (words .entry)) node ⌝ }
+{
+    let mut a: u64 = 0;
+    let mut n = node;
+    while 2 <= n {
+        let low = nodes::low(words, n);
+        if low == 0 {
+            a += power(nodes::top(words, n));
+            n = nodes::high(words, n);
+        } else {
+            n = low;
+        }
+    }
+    a
 }

@@ -7,13 +7,13 @@ use native.Mathlib.Omega.{arith}
 use lib.ListN.{length, take}
 use Rattle.model.specs.Record.{Record}
 use Rattle.model.specs.Formula.{Triple}
-use Rattle.model.specs.Step.{State, withWords, Access, Call, access, Answer, refused, done, isRefused, step, run}
+use Rattle.model.specs.Step.{State, withWords, Access, Call, access, Answer, refused, done, isRefused, step, run, AllAccepted}
 use Rattle.model.specs.Frames.{wordsAfter, clears, numbers, RefusalNumber}
 use Rattle.model.specs.Frames as frames
 use Rattle.model.proofs.FrameLaws.{refusal-number, refusal-leaves}
 use Rattle.formula_calls.specs.Call.{Making, accessesBy, unlessRefused, make}
 use Rattle.formula_calls.specs.Claims as claims
-use Rattle.formula_calls.specs.Claims.{tried, AllAccepted, RefusedAfter}
+use Rattle.formula_calls.specs.Claims.{tried, RefusedAfter}
 
 pub accesses-length : (k : Making) (r : Record) (table : List ℕ) (ts : List Triple) → length (accessesBy k r table ts) ≡ length ts
 accesses-length k r table [] = refl

@@ -11,11 +11,11 @@ use Rattle.formulas.specs.Claims.{depth, numbers, First}
 use Rattle.conditions.specs.Assignment.{bitAt}
 use Rattle.model.specs.Record.{Record}
 use Rattle.model.specs.Formula.{Triple}
-use Rattle.model.specs.Step.{State, withWords, withPorts, Access, conditions, Call, access, nodeCall, Answer, refused, done, isRefused, triplesOf, step, run}
+use Rattle.model.specs.Step.{State, withWords, withPorts, Access, conditions, Call, access, nodeCall, Answer, refused, done, isRefused, triplesOf, step, run, AllAccepted}
 use Rattle.model.specs.Frames.{wordsAfter, clears}
 use Rattle.model.specs.Meanings.{AreListed}
 use Rattle.model.specs.Table.{Names, memoryFacts, AllHold, FirstFails, Overflows}
-use Rattle.formula_calls.specs.Call.{Making, limitsOf, inOrder, listedOver, accessesBy, FormulaAnswer, faulty, refusedBy, stopped, allMade, Found, turnsDown, reads, readFormula, formulaStep}
+use Rattle.formula_calls.specs.Call.{Making, limitsOf, inOrder, accessesBy, FormulaAnswer, faulty, refusedBy, stopped, allMade, Found, turnsDown, reads, readFormula, formulaStep}
 
 -- The calls that a formula stands for: none where it is refused before anything is built; else its conditions, as one node call, and its accesses in order, up to and with the first that is refused
 abbrev pub unlessRefused : Answer → List Call → List Call
@@ -37,11 +37,7 @@ callsFound k table s (reads t) = nodeCall (conditions t) ∷ triedAfter k (s .re
 unfoldable pub callsOf : Making → List ℕ → List ℕ → List ℕ → State → List Call
 callsOf k text table out s = callsFound k table s (readFormula text table out s)
 
--- every call of a list is accepted; the first m are, and the next, which is the last, is refused by row k
-abbrev pub AllAccepted : List Call → State → Type 0
-AllAccepted [] s = Unit {0}
-AllAccepted (c ∷ cs) s = (isRefused (step c s .answer) ≡ false) × AllAccepted cs (step c s .after)
-
+-- the first m calls of a list are accepted, and the next, which is the last, is refused by row k
 abbrev pub RefusedAfter : ℕ → ℕ → List Call → State → Type 0
 RefusedAfter m k [] s = ⊥
 RefusedAfter zero k (c ∷ cs) s = (step c s .answer ≡ refused k) × (cs ≡ [])

@@ -17,11 +17,11 @@ use Rattle.meets.specs.declared.Verdict.{Verdict}
 use Rattle.meets.specs.declared.Verdict.the-variants.{No, Yes, Open}
 use Rattle.diagrams.specs.Parts.{leastOf, partOf, partsOf}
 use Rattle.diagrams.specs.Value.{value}
-use Rattle.diagrams.specs.Assignment.{bitAt, change}
+use Rattle.diagrams.specs.Assignment.{bitAt, change, numberOf}
 use Rattle.diagrams.specs.Keys.{keyOf, slotOf}
 use Rattle.meets.specs.Meet.{judgeOf, meetsBy, meetsUpTo, meets, Settles, Asks, neither, together, SomeNeither, SomeTogether, Decides, notedIn, withNote, judgeNoted, NotesHold}
 use Rattle.diagrams.proofs.ValueLaws.{value-end, value-0}
-use Rattle.diagrams.proofs.AssignmentLaws.{change-same, numberOf, bit-number, number-fits, value-small}
+use Rattle.diagrams.proofs.AssignmentLaws.{change-same, bit-number, number-fits, value-small}
 use Rattle.diagrams.proofs.CanonLaws.{end-same, value-change}
 use Rattle.diagrams.proofs.PartsLaws.{Ready, part-le, part-var, part-value, small-fall, small-ready}
 use Rattle.diagrams.proofs.KeyLaws.{set-or}

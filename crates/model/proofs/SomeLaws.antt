@@ -5,8 +5,8 @@ use Prim.Native.Nat.{ℕ, zero, suc, _^_, _<_}
 use native.Mathlib.Omega.{arith}
 use native.Mathlib.Decide.{decLt}
 use Rattle.nodes.proofs.BoolLaws.{split, iff-same, or-left, or-right}
-use Rattle.conditions.specs.Assignment.{bitAt}
-use Rattle.conditions.proofs.Promises.{numberOf, bit-number, number-fits}
+use Rattle.conditions.specs.Assignment.{bitAt, numberOf}
+use Rattle.conditions.proofs.Promises.{bit-number, number-fits}
 use Rattle.model.specs.Count.{someBelow, underSome, SomeExactly}
 
 -- below any bound

@@ -1,4 +1,5 @@
 -- The calls: what each answers, and what it leaves of record, node words, list and ports.
+use mathlib.Core.Path.{_≡_}
 use mathlib.Core.Bool.{Bool, true, false, cond}
 use mathlib.Core.List.{List, [], _∷_}
 use Prim.Native.Nat.{ℕ, zero, suc, _+_}
@@ -254,6 +255,11 @@ step c s = turnedDownBy (refusal c s) s (closed s (finish c s))
 unfoldable pub run : List Call → State → State
 run [] s = s
 run (c ∷ cs) s = run cs (step c s .after)
+
+-- none of the calls is refused
+abbrev pub AllAccepted : List Call → State → Type 0
+AllAccepted [] s = Unit {0}
+AllAccepted (c ∷ cs) s = (isRefused (step c s .answer) ≡ false) × AllAccepted cs (step c s .after)
 
 -- "Fresh: counts 2 and 0, both conditions 1, and the two terminals written." "Fresh meets only 1 and a store below 6 words (2)." "All ports start X"
 pub record Fresh : Type 0 where

@@ -56,8 +56,8 @@ fn ite_row(r: Fields, words: &[u32], f: u32, g: u32, h: u32) -> u32
     if x & y & z { 0 } else { 5 }
 }
 
-// The row that refuses an evaluate, or 0.
-fn evaluate_row(r: Fields, words: &[u32], f: u32) -> u32
+// The row that refuses an evaluate, or what else is asked of a node, or 0.
+pub fn evaluate_row(r: Fields, words: &[u32], f: u32) -> u32
     ensures { λ x. ⌜ x ≡ firstRow (evaluateRows (recordOf r) (now (words .entry)) f) ⌝ }
 {
     let k = r.store_row(words);

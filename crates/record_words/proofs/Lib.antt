@@ -1,1 +1,3 @@
 pub mod WordsLaws
+pub mod CallLaws
+pub mod ClaimLaws

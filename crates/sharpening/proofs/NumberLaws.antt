@@ -5,10 +5,9 @@ use mathlib.Core.List.{List, [], _∷_}
 use Prim.Native.Nat.{ℕ, zero, suc, _<_, zero-le, suc-le-suc}
 use native.Mathlib.Nat.{le-of-suc-le-suc, not-suc-le-zero}
 use lib.ListN.{length}
-use Rattle.model.specs.Step.{State, write, read, assert, check, Call, access, nodeCall, Answer, refused, done, isRefused, step}
+use Rattle.model.specs.Step.{State, write, read, assert, check, Call, access, nodeCall, Answer, refused, done, isRefused, step, AllAccepted}
 use Rattle.model.specs.Array.{Event, writes, reads, asserts, checks, nothing}
 use Rattle.model.specs.Claims.{event, events, May}
-use Rattle.cases.specs.Claims.{AllAccepted}
 use Rattle.sharpening.specs.Sharper.{SharperList, end, both, first, second, Matched}
 use Rattle.sharpening.specs.Claims.{AnswersNarrower, SameNumber}
 

@@ -9,7 +9,7 @@ use Rattle.conditions.specs.Assignment.{bitAt}
 use Rattle.conditions.proofs.Promises.{value-0, value-1}
 use Rattle.model.specs.Pairs.{Pair}
 use Rattle.model.specs.Record.{Record, hAt, lAt}
-use Rattle.model.specs.Step.{State, Access, write, read, assert, check, Call, access, Answer, refused, done, isRefused, step}
+use Rattle.model.specs.Step.{State, Access, write, read, assert, check, Call, access, Answer, refused, done, isRefused, step, AllAccepted}
 use Rattle.model.specs.Array.{asserts, checks}
 use Rattle.model.specs.Claims.{pairsFrom, pairs, argument, event, events}
 use Rattle.model.specs.Frames.{SuccessLeaves, Valid}
@@ -17,7 +17,6 @@ use Rattle.model.specs.Table.{Names, AcceptedExactly}
 use Rattle.model.proofs.FrameLaws.{success-leaves}
 use Rattle.model.proofs.TableLaws.{accepted-exactly}
 use Rattle.formula_calls.proofs.StandLaws.{StandsIn, step-stands, memory-valid}
-use Rattle.cases.specs.Claims.{AllAccepted}
 use Rattle.sharpening.specs.Sharper.{Sharper, alike, settled, AllSharper, SharperAccess, SharperList, end, both}
 use Rattle.sharpening.specs.Sharper as sharper
 use Rattle.sharpening.specs.Replaced.{ReplacedPair, same, by1, by0, Replaced, Named, ReplacedAccess, of-write, of-read, of-assert, of-check, ReplacedCalls, then}

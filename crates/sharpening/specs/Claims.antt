@@ -14,13 +14,13 @@ use Rattle.model.specs.Array.{Event}
 use Rattle.model.specs.Held.{Held, heldAfter, heldAfterAll, NowMay, RunMay, Accepted}
 use Rattle.model.specs.Held as held
 use Rattle.model.specs.Record.{Record}
-use Rattle.model.specs.Step.{State, Call, accepted, done, run, fresh}
+use Rattle.model.specs.Step.{State, Call, accepted, done, run, fresh, AllAccepted}
 use Rattle.model.specs.Claims.{events, May, HeldMay, CheckHolds, Begins}
 use Rattle.model.specs.Chain.{Link, Chained, lastState, eventsOf, MayBe, freshed}
 use Rattle.formula_calls.specs.Chain.{AnyLink, AllChained, lastOf, spelledOut}
 use Rattle.cases.specs.Case.{accepts, caseOf}
 use Rattle.reading.specs.Sections.{recordIn, stored}
-use Rattle.cases.specs.Claims.{callsIn, stateIn, AllAccepted}
+use Rattle.cases.specs.Claims.{callsIn, stateIn}
 use Rattle.sharpening.specs.Sharper.{Sharper, AllSharper, SharperAccess, SharperList, Matched}
 use Rattle.sharpening.specs.Replaced.{ReplacedCalls}
 

@@ -7,14 +7,13 @@ use lib.Dec.{T}
 use lib.ListN.{replicate}
 use Rattle.conditions.specs.Value.{value}
 use Rattle.conditions.specs.Assignment.{bitAt}
-use Rattle.model.specs.Step.{State, write, read, assert, check, variable, Call, access, nodeCall, place, idle, entered, kept, refused, done, step, run, freshRecord, fresh}
+use Rattle.model.specs.Step.{State, write, read, assert, check, variable, Call, access, nodeCall, place, idle, entered, kept, refused, done, step, run, freshRecord, fresh, AllAccepted}
 use Rattle.model.specs.Array.{Event}
 use Rattle.model.specs.Claims.{events, May, CheckHolds}
 use Rattle.model.specs.Rulings.{one, nought, unknown, _at_, lent}
 use Rattle.model.specs.Chain.{eventsOf, MayBe}
 use Rattle.formula_calls.specs.Call.{asserting, formulaStep}
 use Rattle.formula_calls.specs.Chain.{AnyLink, call, formula, afterLink, AllChained, spelledOut}
-use Rattle.cases.specs.Claims.{AllAccepted}
 use Rattle.sharpening.specs.Replaced.{ReplacedCalls}
 use Rattle.sharpening.specs.Sharper.{SharperList, Matched}
 

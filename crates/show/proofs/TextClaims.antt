@@ -7,9 +7,9 @@ use mathlib.Core.List.{List}
 use Prim.Native.Nat.{ℕ, _<_}
 use Rattle.nodes.specs.Standard.{Standard}
 use Rattle.diagrams.specs.Value.{eval, treeOf, value}
-use Rattle.diagrams.specs.Assignment.{bitAt}
+use Rattle.diagrams.specs.Assignment.{bitAt, numberOf}
 use Rattle.show.specs.Show.{show, textOf, Alike}
-use Rattle.diagrams.proofs.AssignmentLaws.{numberOf, bit-number, number-fits, value-small}
+use Rattle.diagrams.proofs.AssignmentLaws.{bit-number, number-fits, value-small}
 use Rattle.diagrams.proofs.CanonLaws.{tree-one, node-canon}
 use Rattle.show.proofs.ShowLaws.{show-injective}
 

@@ -1,4 +1,4 @@
-use Rattle.capi.proofs.CallLaws.{call-is}
+use Rattle.record_words.proofs.CallLaws.{call-is}
 use Rattle.model.specs.Step.{check, access}
 use Rattle.memory.specs.Contract.{checkAnswer}
 use mathlib.Core.List.{[]}

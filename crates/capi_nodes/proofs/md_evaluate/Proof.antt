@@ -1,9 +1,9 @@
-use Rattle.capi.proofs.CallLaws.{evaluate-is, value-is}
+use Rattle.capi_nodes.proofs.CallLaws.{evaluate-is, value-is}
 use Rattle.memory.specs.Contract.{valueAnswer}
 use denote.Ref.{now}
 use borrow.Author.Needs.{needs}
-use Rattle.capi.proofs.md_evaluate.Statement.{statement}
-use Rattle.capi.proofs.md_evaluate.Tie as tie
+use Rattle.capi_nodes.proofs.md_evaluate.Statement.{statement}
+use Rattle.capi_nodes.proofs.md_evaluate.Tie as tie
 
 record-of-requires : tie.Need-record-of-requires
 record-of-requires c κs = search needs

@@ -1,9 +1,9 @@
 use denote.Ref.{now}
-use Rattle.capi.proofs.CallLaws.{fresh-is}
+use Rattle.capi_nodes.proofs.CallLaws.{fresh-is}
 use Rattle.memory.specs.Contract.{freshAnswer}
 use borrow.Author.Needs.{needs}
-use Rattle.capi.proofs.md_fresh.Statement.{statement}
-use Rattle.capi.proofs.md_fresh.Tie as tie
+use Rattle.capi_nodes.proofs.md_fresh.Statement.{statement}
+use Rattle.capi_nodes.proofs.md_fresh.Tie as tie
 
 record-of-requires : tie.Need-record-of-requires
 record-of-requires c κs = search needs

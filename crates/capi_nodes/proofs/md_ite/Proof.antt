@@ -1,11 +1,11 @@
-use Rattle.capi.proofs.CallLaws.{call-is}
+use Rattle.record_words.proofs.CallLaws.{call-is}
 use Rattle.model.specs.Step.{ite, nodeCall}
 use Rattle.memory.specs.Contract.{nodeAnswer}
 use mathlib.Core.List.{[]}
 use denote.Ref.{now}
 use borrow.Author.Needs.{needs}
-use Rattle.capi.proofs.md_ite.Statement.{statement}
-use Rattle.capi.proofs.md_ite.Tie as tie
+use Rattle.capi_nodes.proofs.md_ite.Statement.{statement}
+use Rattle.capi_nodes.proofs.md_ite.Tie as tie
 
 record-of-requires : tie.Need-record-of-requires
 record-of-requires c κs = search needs

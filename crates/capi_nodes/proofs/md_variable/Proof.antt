@@ -1,11 +1,11 @@
 use denote.Ref.{now}
-use Rattle.capi.proofs.CallLaws.{call-is}
+use Rattle.record_words.proofs.CallLaws.{call-is}
 use Rattle.model.specs.Step.{variable, nodeCall}
 use Rattle.memory.specs.Contract.{nodeAnswer}
 use mathlib.Core.List.{[]}
 use borrow.Author.Needs.{needs}
-use Rattle.capi.proofs.md_variable.Statement.{statement}
-use Rattle.capi.proofs.md_variable.Tie as tie
+use Rattle.capi_nodes.proofs.md_variable.Statement.{statement}
+use Rattle.capi_nodes.proofs.md_variable.Tie as tie
 
 record-of-requires : tie.Need-record-of-requires
 record-of-requires c κs = search needs
