@@ -12,7 +12,7 @@ FOLDER = os.path.join(ROOT, "target", "bench")
 SOURCE = os.path.join(HERE, "memcase_buddy.cpp")
 CALLS = os.path.join(HERE, "calls.c")
 TEXTS = os.path.join(HERE, "texts.c")
-ARCHIVE = os.path.join(ROOT, "target", "staticlib", "libcapi.a")
+ARCHIVE = os.path.join(ROOT, "target", "staticlib", "libmangerday.a")
 
 # Static, so that no loading of shared libraries counts as BuDDy's start-up.
 COMPILE = ["g++", "-O2", "-std=c++17", "-Wall", "-Wextra", "-static"]
@@ -39,7 +39,7 @@ def buddy_program():
 def library_program(name, source):
     """The path of a program that is linked to the library."""
     if not os.path.exists(ARCHIVE):
-        sys.exit("%s is not there: rt staticlib capi builds it" % os.path.relpath(ARCHIVE))
+        sys.exit("%s is not there: link/install target/prefix builds it" % os.path.relpath(ARCHIVE))
     os.makedirs(FOLDER, exist_ok=True)
     program = os.path.join(FOLDER, name)
     subprocess.run(["gcc", "-O2", "-std=gnu99", "-Wall", "-Wextra", "-I", os.path.join(ROOT, "include"),

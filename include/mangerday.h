@@ -1,5 +1,6 @@
 /*
- * The symbolic memory model, for simulators in C and C++ (C99, x86-64 Linux).
+ * The symbolic memory model, for simulators in C and C++ (C99, x86-64 Linux). In C++, mangerday.hpp has the same
+ * calls as classes.
  *
  * Conditions are nodes of decision diagrams in a lent slice of words, three words a node: variable,
  * low child, high child. Node 0 is false, node 1 true. A pair of nodes (h, l) stands for a bit that
@@ -12,27 +13,8 @@
  * first 2w of its own 32 words: MD_PORTS words in all, which go from call to call as the list does.
  * md_fresh begins them, md_read reads and replaces one, and no other call sees them.
  *
- * Every call answers 0, accepted, or the number of the row that refuses it:
- *
- *    1  n or w outside its range
- *    2  fewer than 6 node words, node count under 2 or over capacity, nodes not in standard form
- *    3  entry count over the list's capacity; an entry word, a record condition or, in a read, a held
- *       word of any port that 5 would refuse
- *    4  a slice not exactly 2n or 2w words, an enable not 2
- *    5  an access's or Ite's node not below the count or on an index variable;
- *       evaluate: not below the count; variable not 8 to 63
- *    6  some assignment makes a pair neither 1 nor 0
- *    7  assert: some assignment has b and an X address bit
- *    8  no space for the entry
- *    9  a node is needed past capacity
- *   10  the case file ends early
- *   11  unknown kind of access
- *   12  bytes after the last access
- *   13  text too long for its buffer; formula: the answer slice too short
- *   14  read: port above 3
- *   15  formula: a text outside the language, a predicate past the table or past 4,294,967,295, or a node
- *       that 5 would refuse
- *   16  formula: more than 32 open parentheses, N and arrows around one place
+ * Every call answers 0, accepted, or the number of the row that refuses it: MD_ROWS below is the table, and
+ * md_reason gives a row's sentence.
  *
  * A call tests its rows in the order listed for it, and answers the first that it meets: a write meets
  * 8 after its conditions are built, so that a 9 wins; but an assert meets 8 when its entry is needed, so
@@ -44,8 +26,8 @@
  * new counts, and of the ports nothing but the held word of the port that it reads, or by md_fresh all. Any
  * words may be lent: what is no memory is refused, by row 1, 2 or 3.
  *
- * Node capacity is the words divided by 3, rounded down, at most 16,384. List capacity is whole
- * entries of 2 + 2n + 2w words, at most 4,096.
+ * Node capacity is the words divided by 3, rounded down, at most MD_NODE_LIMIT. List capacity is whole
+ * entries of 2 + 2n + 2w words, at most MD_ENTRY_LIMIT.
  *
  * The entry count is exact, and a list can be planned from the accesses. After calls from md_fresh on, the
  * entries are as many as the accepted writes whose enable may be 1 under some assignment, plus the accepted
@@ -81,8 +63,15 @@
 extern "C" {
 #endif
 
+/* The version of what is installed. */
+#define MD_VERSION "0.2.0"
+
 /* The stack that a call needs at most, in bytes, with some to spare. */
 #define MD_STACK 1048576
+
+/* The nodes, 0 and 1 among them, and the entries that a memory may have at most, whatever it is lent. */
+#define MD_NODE_LIMIT 16384
+#define MD_ENTRY_LIMIT 4096
 
 /* The record is six words: n, w, node count, entry count, assert condition, check condition. */
 enum { MD_N, MD_W, MD_NODES, MD_ENTRIES, MD_ASSERTED, MD_CHECKED, MD_RECORD };
@@ -90,8 +79,58 @@ enum { MD_N, MD_W, MD_NODES, MD_ENTRIES, MD_ASSERTED, MD_CHECKED, MD_RECORD };
 /* The words of the four ports. */
 #define MD_PORTS 128
 
-/* What md_write answers in the place of an idle write; no entry has it. */
+/* The two nodes that every memory has. */
+enum { MD_FALSE = 0, MD_TRUE = 1 };
+
+/* What md_assert tells: nothing was entered, or the data was. */
+enum { MD_KEPT = 0, MD_ENTERED = 1 };
+
+/* What md_write tells in the place of an idle write; no entry has it. */
 #define MD_IDLE 4294967295u
+
+/* The table of refusals: a row's name, number and sentence, each row on a line of its own. In more words:
+    2  fewer than 6 node words, or a node count under 2 or over capacity, is no fit
+    3  in a read, a held word of any port counts, and not that of the read's own alone
+    4  an address is exactly 2n words, data and a read's answer 2w, an enable 2
+    5  md_evaluate, md_text and md_witness refuse no node on a variable below 8
+   15  a node here is refused as by 5, and a predicate's number may be 4,294,967,295 at most */
+#define MD_ROWS(ROW) \
+    ROW(MD_ROW_SIZES, 1, "n is not 1 to 8, or w not 1 to 16") \
+    ROW(MD_ROW_STORE, 2, "the nodes do not fit the store, or are not in standard form") \
+    ROW(MD_ROW_LIST, 3, "the entries do not fit the list, or row 5 would refuse a node of entries, record or ports") \
+    ROW(MD_ROW_LENGTHS, 4, "an address, data, an answer or an enable is not as long as n and w say") \
+    ROW(MD_ROW_NODE, 5, "a node is not there or is on a variable below 8, or a variable is not 8 to 63") \
+    ROW(MD_ROW_PAIR, 6, "some assignment makes a pair neither 1 nor 0") \
+    ROW(MD_ROW_ADDRESS, 7, "an assert whose address is X under an assignment where b holds") \
+    ROW(MD_ROW_LIST_FULL, 8, "no space in the update list for an entry that is needed") \
+    ROW(MD_ROW_STORE_FULL, 9, "no space for a node") \
+    ROW(MD_ROW_FILE_SHORT, 10, "the file ends early") \
+    ROW(MD_ROW_KIND, 11, "an unknown kind of access") \
+    ROW(MD_ROW_FILE_LONG, 12, "bytes after the last access") \
+    ROW(MD_ROW_TEXT_FULL, 13, "the text is longer than its buffer, or what a formula lists than its answer slice") \
+    ROW(MD_ROW_PORT, 14, "a read by a port above 3") \
+    ROW(MD_ROW_FORMULA, 15, "the formula is outside the language, or names a predicate or a node that is not there") \
+    ROW(MD_ROW_NESTING, 16, "more than 32 parentheses, N and arrows are open around one place of the formula")
+
+#define MD_ROW_NUMBER(name, number, sentence) , name = number
+enum { MD_ACCEPTED = 0 MD_ROWS(MD_ROW_NUMBER) };
+#undef MD_ROW_NUMBER
+
+/* The sentence of a row, "accepted" for 0, and "no row of the table" for a number that no call returns. */
+static inline const char *md_reason(uint32_t row)
+{
+#define MD_ROW_SENTENCE(name, number, sentence) \
+    case number: \
+        return sentence;
+    switch (row) {
+    case MD_ACCEPTED:
+        return "accepted";
+    MD_ROWS(MD_ROW_SENTENCE)
+    default:
+        return "no row of the table";
+    }
+#undef MD_ROW_SENTENCE
+}
 
 /* A memory of n address bits (1 to 8) and w data bits (1 to 16): counts 2 and 0, both conditions 1,
    nodes 0 and 1 written into the node words, which are at least 6, and every word of the ports node 1,
@@ -102,6 +141,20 @@ uint32_t md_fresh(uint32_t record[MD_RECORD], uint32_t n, uint32_t w, uint32_t *
 /* The value, 0 or 1, of a node under an assignment, in which bit v is variable v. Meets 1, 2, 5. */
 uint32_t md_evaluate(const uint32_t record[MD_RECORD], const uint32_t *nodes, size_t nodes_length, uint32_t node,
                      uint64_t assignment, uint32_t *value);
+
+/* A condition's text, `0`, `1` or `(v low high)`: if variable v then high, else low. Two conditions, of one memory
+   or of two, have the same text exactly when they agree under every assignment. It is written from the first byte
+   of the buffer on, and length is how many bytes it is; later bytes stay as they are, and no byte 0 is added. A text
+   that does not fit meets 13: then every byte of the buffer is 0, and length is as it was. A text may be exponentially
+   longer than its diagram; the call's time grows with the buffer, not with the text. Meets 1, 2, 5, 13. */
+uint32_t md_text(const uint32_t record[MD_RECORD], const uint32_t *nodes, size_t nodes_length, uint32_t node,
+                 uint8_t *text, size_t text_length, uint64_t *length);
+
+/* An assignment under which a node holds, in which bit v is variable v: from the node down to the low child, or where
+   that is node 0 to the high child, whose variable is then 1; all other variables are 0. Node 0 holds under none, and
+   its assignment is 0. Meets 1, 2, 5. */
+uint32_t md_witness(const uint32_t record[MD_RECORD], const uint32_t *nodes, size_t nodes_length, uint32_t node,
+                    uint64_t *assignment);
 
 /* The node of a user variable, 8 to 63: it holds where the variable is 1. Meets 1, 2, 5, 9. */
 uint32_t md_variable(uint32_t record[MD_RECORD], uint32_t *nodes, size_t nodes_length, uint32_t variable,
@@ -131,7 +184,7 @@ uint32_t md_read(uint32_t record[MD_RECORD], uint32_t *nodes, size_t nodes_lengt
 
 /* Where the condition b holds, the word at the address is assumed to be admitted by the data: the
    assert condition is narrowed to where the data lies inside what the memory admits, and the data is
-   entered (entered is 1), unless that would change nothing (kept: 0). Meets 1, 2, 3, 4, 5, 6, 7, 8, 9. */
+   entered (MD_ENTERED), unless that would change nothing (MD_KEPT). Meets 1, 2, 3, 4, 5, 6, 7, 8, 9. */
 uint32_t md_assert(uint32_t record[MD_RECORD], uint32_t *nodes, size_t nodes_length, uint32_t *list,
                    size_t list_length, uint32_t b, const uint32_t *address, size_t address_length,
                    const uint32_t *data, size_t data_length, uint32_t *entered);

@@ -1,13 +1,14 @@
 #!/usr/bin/env python3
-"""The eleven functions for C, held to the second program: what each returns, and every word of every buffer.
+"""The thirteen functions for C, held to the second program: what each returns, and every word of every buffer.
 
     python3 tests/linkcalls.py ARCHIVE [--times K]
 
 makes a shared object of the archive and calls it through ctypes on random inputs from fixed seeds,
 long and short, valid and damaged; K times as many with --times.  The calls' answers are found by
-tools/calls.py, those of case files by tools/reference.py.  It prints how often each function met each
-row, 0 being accepted, and how many of the writes were idle; the status is 1 where anything differs, or
-where a row was not met that a function can meet, or no idle write.
+tools/calls.py, those of case files by tools/reference.py; a node must hold under its witness, by the
+library's own evaluate too.  It prints how often each function met each row, 0 being accepted, and how many
+of the writes were idle; the status is 1 where anything differs, or where a row was not met that a function
+can meet, or no idle write, or where the archive has other functions than these.
 """
 
 import argparse
@@ -20,24 +21,31 @@ from collections import Counter
 
 import rooms  # noqa: F401
 import randomformulas
-from calls import (ASSERT, ASSERT_FORMULA, CHECK, CHECK_FORMULA, EVALUATE, FORMULAS, FRESH, IDLE, ITE, NAMES, READ, VARIABLE,
-                   WRITE, Call, entry_size, run)
-from randomcalls import (Shape, Words, access, after, any_call, call, damage, memory, no_memory, shape, store, unbegun,
-                         user_variables)
+from calls import (ASSERT, ASSERT_FORMULA, CHECK, CHECK_FORMULA, EVALUATE, FORMULAS, FRESH, IDLE, ITE, NAMES, READ,
+                   TEXT, VARIABLE, WITNESS, WRITE, Call, entry_size, run, value)
+from randomcalls import (Shape, Words, access, after, any_call, call, damage, memory, no_memory, shape, standard, store,
+                         unbegun, user_variables)
 from randomcases import random_bytes
 from reference import left_of, run_case
+from tables import TERMINALS
 
 # The rows that a function can meet.
 REACHED = {WRITE: {0, 1, 2, 3, 4, 5, 6, 8, 9}, READ: {0, 1, 2, 3, 4, 5, 6, 9, 14}, ASSERT: set(range(10)),
            CHECK: {0, 1, 2, 3, 4, 5, 6, 9}, FRESH: {0, 1, 2}, EVALUATE: {0, 1, 2, 5}, VARIABLE: {0, 1, 2, 5, 9},
            ITE: {0, 1, 2, 5, 9}, ASSERT_FORMULA: {0, 1, 2, 3, 5, 6, 7, 8, 9, 13, 15, 16},
-           CHECK_FORMULA: {0, 1, 2, 3, 5, 6, 9, 13, 15, 16}}
+           CHECK_FORMULA: {0, 1, 2, 3, 5, 6, 9, 13, 15, 16}, TEXT: {0, 1, 2, 5, 13}, WITNESS: {0, 1, 2, 5}}
 REACHED_BY_CASES = {0, 1, 2, 5, 6, 7, 8, 9, 10, 11, 12, 13, 14}
 GUARD = 8
 
 
 class Differs(Exception):
     """The library does not do what the second program says, with the input."""
+
+
+def exported(archive):
+    """The names that an archive defines for its callers."""
+    listed = subprocess.run(["nm", "-g", "--defined-only", archive], stdout=subprocess.PIPE, text=True, check=True)
+    return sorted(words[2] for words in map(str.split, listed.stdout.splitlines()) if len(words) == 3)
 
 
 class Library:
@@ -111,6 +119,21 @@ def ask_formula(library, one, state, out):
             list(state.ports))
 
 
+def ask_question(library, one, state, out):
+    """The same of a text or a witness, which has an out-word of 64 bits, and is lent neither list nor ports."""
+    record, nodes, text = Lent(state.record), Lent(state.nodes), Lent(one.data, ctypes.c_uint8)
+    told = ctypes.c_uint64(out)
+    lent = text.slice() if one.kind == TEXT else ()
+    function = getattr(library, NAMES[one.kind])
+    number = function(record.buffer, *nodes.slice(), ctypes.c_uint32(one.other[0]), *lent, ctypes.byref(told))
+    return (number, told.value, tuple(record.words()), nodes.words(), list(state.list), text.words(), list(state.ports))
+
+
+def asked_by(kind):
+    """What calls a function of the library."""
+    return ask_formula if kind in FORMULAS else ask_question if kind in (TEXT, WITNESS) else ask
+
+
 def told_words(one, left, out):
     """The out-word of a call, or the three of a formula, where it is `out` before it."""
     if one.kind in FORMULAS:
@@ -140,7 +163,7 @@ class Test:
         expected = run(one, *state)
         out = rng.below(1 << 32)
         wanted = (expected.number, told_words(one, expected, out), tuple(expected.record), *expected[3:])
-        found = (ask_formula if one.kind in FORMULAS else ask)(self.library, one, state, out)
+        found = asked_by(one.kind)(self.library, one, state, out)
         names = "number", "out-word", "record", "node words", "list words", "data", "port words"
         for what, right, answer in zip(names, wanted, found):
             if right != answer:
@@ -195,6 +218,61 @@ class Test:
         for _ in range(4):
             self.step(rng, state, call(rng, state, size.variables), 40)
 
+    def ask_of_node(self, rng, node, state):
+        """The witness of a node, where it must hold, and its text in buffers of several lengths; both damaged too."""
+        one = Call(WITNESS, other=(node,))
+        witness = self.compare(rng, one, state).out
+        self.holds(node, witness, state)
+        text = Call(TEXT, other=(node,), data=text_buffer(rng, 100 + rng.below(4000)))
+        left = self.compare(rng, text, state)
+        length = left.out if left.number == 0 else 1 + rng.below(4100)
+        for room in (length, length + 1 + rng.below(9), length - 1, rng.below(length)):
+            self.compare(rng, text._replace(data=text_buffer(rng, room)), state)
+        self.compare(rng, *damage(rng, one, state))
+        self.compare(rng, *damage(rng, text, state))
+
+    def holds(self, node, witness, state):
+        """Node 0 alone does not hold under its witness, by evaluate in the library and here."""
+        number, found, *_ = ask(self.library, Call(EVALUATE, other=(node, witness)), state, 7)
+        here = value(standard(state), node, witness)
+        if number or found != here or here != (node != 0):
+            raise Differs("witness %#x of node %d: it is %d there, by evaluate %d, row %d\n%s" % (
+                witness, node, here, found, number, state))
+
+    def questions(self, seed):
+        """Texts and witnesses of nodes, those on index variables among them."""
+        rng = Words(seed)
+        size = shape(rng)
+        nodes = store(rng, size.variables + list(range(min(8, size.n + 2))), rng.between(2, 60))
+        state = memory(rng, size, nodes, rng.below(2), rng.below(60), rng.below(30))
+        for node in {0, 1, len(nodes) - 1, rng.below(len(nodes)), rng.below(len(nodes))}:
+            self.ask_of_node(rng, node, state)
+
+    def any_question(self, seed):
+        """A text or a witness of any words at all."""
+        rng = Words(seed)
+        state = no_memory(rng)
+        self.compare(rng, Call(WITNESS, other=(rng.word(),)), state)
+        self.compare(rng, Call(TEXT, other=(rng.word(),), data=text_buffer(rng, rng.below(40))), state)
+
+    def all_variables(self, seed):
+        """Witnesses of nodes on all 64 variables, more than tables do: each node must hold there."""
+        rng = Words(seed)
+        self.all_hold(memory(rng, Shape(1, 1, [8]), store(rng, list(range(64)), 300), 0, 3, 6))
+        chain = TERMINALS + [(variable, 0, 1 if variable == 63 else 64 - variable) for variable in range(63, -1, -1)]
+        if self.all_hold(memory(rng, Shape(1, 1, [8]), chain, 0, 3, 6)) != (1 << 64) - 1:
+            raise Differs("the And of all variables holds under no other assignment")
+
+    def all_hold(self, state):
+        """The last node's witness; every node must hold under its own."""
+        for node in range(state.record.nodes):
+            number, witness, *_ = ask_question(self.library, Call(WITNESS, other=(node,)), state, 7)
+            if number:
+                raise Differs("witness of node %d: row %d\n%s" % (node, number, state))
+            self.holds(node, witness, state)
+            self.met[WITNESS, 0] += 1
+        return witness
+
     def formulas(self, seed):
         """Formulas on a memory, one after another, as they should be, damaged, and with less room than they need."""
         rng = Words(seed)
@@ -246,6 +324,7 @@ class Test:
         state = memory(rng, size, nodes, 2, 49152 - 3 * len(nodes) + rng.below(9), 3 * entry_size(size.n, size.w))
         for _ in range(4):
             state = self.step(rng, state, call(rng, state, size.variables), 15)
+        self.ask_of_node(rng, state.record.nodes - 1 - rng.below(9), state)
 
     def large_list(self, seed, entries):
         """Lists of thousands of entries, up to the 4,096 that there may be."""
@@ -283,6 +362,10 @@ class Test:
         return number, told.value, tuple(record.words()), nodes.words(), listed.words(), bytes(text.words())
 
 
+def text_buffer(rng, length):
+    return [rng.below(256) for _ in range(length)]
+
+
 def buffer_length(rng, needed):
     """Most often ample, else near what is needed, or anything."""
     way = rng.below(10)
@@ -314,6 +397,12 @@ def all_tests(test, times):
         test.formulas(600000 + seed)
     for seed in range(20 * times):
         test.long_formula(700000 + seed, 10 * (1 + seed % 20))
+    for seed in range(200 * times):
+        test.questions(800000 + seed)
+    for seed in range(500 * times):
+        test.any_question(900000 + seed)
+    for seed in range(2 * times):
+        test.all_variables(1000000 + seed)
 
 
 def report(test):
@@ -341,6 +430,10 @@ def main():
     options = parser.parse_args()
     if not os.path.isfile(options.archive):
         sys.exit("linkcalls: no %s; `link/install PREFIX` makes PREFIX/lib/libmangerday.a" % options.archive)
+    functions = sorted("md_" + name for name in [*NAMES.values(), "case"])
+    if exported(options.archive) != functions:
+        print("linkcalls: the archive has %s, not %s" % (exported(options.archive), functions))
+        return 1
     with tempfile.TemporaryDirectory() as folder:
         test = Test(Library(options.archive, folder))
         try:

@@ -8,9 +8,9 @@ PROGRAM is link/c/texts.c linked to the archive.  It is run on all texts of up t
 behind each of some beginnings that have nearly as many openers as there may be.  What it writes is compared with
 tools/formulas.py, which goes once through what texts have in common.  The status is 1 where one differs.
 
-link/test runs it up to 5 letters, and 3 behind a beginning.  Longer ones, where rt staticlib capi has built the archive:
+link/test runs it up to 5 letters, and 3 behind a beginning.  Longer ones, where link/install has built the archive:
 
-    cc -O2 -Iinclude link/c/texts.c target/staticlib/libcapi.a -o target/texts
+    cc -O2 -Iinclude link/c/texts.c target/staticlib/libmangerday.a -o target/texts
     python3 tests/linktexts.py target/texts --letters 7 --behind 5
 """
 

@@ -23,9 +23,11 @@ Record = namedtuple("Record", "n w nodes entries assert_condition check_conditio
 Entry = namedtuple("Entry", "h s address data")
 
 # The accesses, numbered as in a case file, and the other calls.
-WRITE, READ, ASSERT, CHECK, FRESH, EVALUATE, VARIABLE, ITE, ASSERT_FORMULA, CHECK_FORMULA = range(1, 11)
+(WRITE, READ, ASSERT, CHECK, FRESH, EVALUATE, VARIABLE, ITE, ASSERT_FORMULA, CHECK_FORMULA, TEXT,
+ WITNESS) = range(1, 13)
 NAMES = {WRITE: "write", READ: "read", ASSERT: "assert", CHECK: "check", FRESH: "fresh", EVALUATE: "evaluate",
-         VARIABLE: "variable", ITE: "ite", ASSERT_FORMULA: "assert_formula", CHECK_FORMULA: "check_formula"}
+         VARIABLE: "variable", ITE: "ite", ASSERT_FORMULA: "assert_formula", CHECK_FORMULA: "check_formula",
+         TEXT: "text", WITNESS: "witness"}
 
 # The calls of written formulas, each with the access that it makes.
 FORMULAS = {ASSERT_FORMULA: ASSERT, CHECK_FORMULA: CHECK}
@@ -34,11 +36,13 @@ FORMULAS = {ASSERT_FORMULA: ASSERT, CHECK_FORMULA: CHECK}
 IDLE = (1 << 32) - 1
 
 # A call's arguments: `control` is the enable's words, or b alone; `other` is what is no slice
-# in the four other calls: n and w; a node and an assignment; a variable; f, g and h.  `port` is
-# a read's, `text` and `table` are a formula's bytes and its table of predicates.
+# in the calls that are no accesses: n and w; a node and an assignment; a variable; f, g and h; the
+# node of a text or of a witness.  `port` is a read's, `text` and `table` are a formula's bytes and its
+# table of predicates.  The `data` of a text is its buffer, byte by byte.
 Call = namedtuple("Call", "kind control address data other port text table", defaults=((), (), (), (), 0, b"", ()))
 
-# What a call answers and leaves; `data` are the words of a read's or a formula's answer, or the data as lent.
+# What a call answers and leaves; `data` are the words of a read's or a formula's answer, the bytes of a text's
+# buffer, or the data as lent.
 Left = namedtuple("Left", "number out record nodes list data ports")
 
 # What a formula tells: how many predicates it lists, how many accesses were made, and the place of a fault in the
@@ -340,12 +344,17 @@ def do_access(memory, kind, control, address, data, port):
     return memory.check(control[0], address, data)
 
 
+def need_node(record, node):
+    """Row 5 of a call that asks of a node and builds none."""
+    if node >= record.nodes:
+        raise Refused(5)
+
+
 def node_call(call, record, nodes, node_words):
     """Evaluate, variable or Ite: out-word, record and new node words."""
     if call.kind == EVALUATE:
         node, assignment = call.other
-        if node >= record.nodes:
-            raise Refused(5)
+        need_node(record, node)
         return value(nodes, node, assignment), record, []
     capacity = node_capacity(node_words)
     if call.kind == VARIABLE:
@@ -361,6 +370,37 @@ def node_call(call, record, nodes, node_words):
         conditions = tables_of(nodes, call.other, 0, capacity)
         made = conditions.ite(*[conditions.tables[x] for x in call.other])
     return conditions.numbers[made], record._replace(nodes=conditions.count()), conditions.words(record.nodes)
+
+
+def first_assignment(conditions, table):
+    """The assignment in which every variable is 0 that can be where the table holds, the lowest variable first; 0
+    where the table holds nowhere."""
+    found = 0
+    for variable, mask in zip(conditions.variables, conditions.masks):
+        if table & ~mask:
+            table &= ~mask
+        elif table:
+            found |= 1 << variable
+    return found
+
+
+def put_text(conditions, table, room):
+    """Row 13, and the bytes of a condition's text."""
+    if conditions.text_length(table) > len(room):
+        raise Refused(13)
+    written = list(conditions.text(table).encode("ascii"))
+    return len(written), written + list(room[len(written):])
+
+
+def question(call, record, nodes, capacity):
+    """Text or witness of a node, on an index variable too: out-word and data."""
+    node, = call.other
+    need_node(record, node)
+    conditions = tables_of(nodes, [node], 0, capacity)
+    table = conditions.tables[node]
+    if call.kind == WITNESS:
+        return first_assignment(conditions, table), list(call.data)
+    return put_text(conditions, table, call.data)
 
 
 # Written formulas.
@@ -459,6 +499,9 @@ def accepted(call, record, words, entries, ports):
     nodes = store_nodes(record, words)
     if call.kind in FORMULAS:
         return formula(call, record, nodes, words, entries, ports)
+    if call.kind in (TEXT, WITNESS):
+        out, data = question(call, record, nodes, node_capacity(len(words)))
+        return Left(0, out, record, words, entries, data, ports)
     if call.kind in (EVALUATE, VARIABLE, ITE):
         out, after, new = node_call(call, record, nodes, len(words))
     else:
@@ -476,4 +519,5 @@ def run(call, record, words, entries, ports):
         if refused.number in (8, 9):
             start, end = 3 * record.nodes, 3 * node_capacity(len(words))
             words[start:end] = [0] * (end - start)
-        return Left(refused.number, refused_out(call, refused), record, words, entries, list(call.data), ports)
+        data = [0] * len(call.data) if (call.kind, refused.number) == (TEXT, 13) else list(call.data)
+        return Left(refused.number, refused_out(call, refused), record, words, entries, data, ports)

@@ -34,14 +34,16 @@ static void run(const char *what, make *call, const char *text)
     uint64_t listed = 0, made = 0, place = 0, i;
     uint32_t row = call(record, nodes, NODE_WORDS, text, &listed, &made, &place);
     printf("%s %s\n", what, text);
-    if (row == 15 || row == 16) {
+    if (row == MD_ROW_FORMULA || row == MD_ROW_NESTING) {
         printf("%*s^ refused by %u\n", (int)(strlen(what) + 1 + place), "", (unsigned)row);
         return;
     }
     for (i = 0; i < listed; i++)
         printf("  step %u  condition %u  m%u\n", (unsigned)answer[3 * i], (unsigned)answer[3 * i + 1], (unsigned)answer[3 * i + 2]);
     printf("  %u of %u made", (unsigned)made, (unsigned)listed);
-    printf(row ? ", then refused by %u\n" : "\n", (unsigned)row);
+    if (row != MD_ACCEPTED)
+        printf(", then refused by %u: %s", (unsigned)row, md_reason(row));
+    printf("\n");
 }
 
 int main(void)

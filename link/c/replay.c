@@ -1,10 +1,10 @@
 /*
- * The paper's example, once by the calls and once as a case file. Both texts must be the paper's, and
- * both must leave the same record, node words and list words; then a read that is not enabled must give
- * again what its port holds, and a write that is never enabled must be idle and change nothing. The header's
- * example of counted entries must need exactly as many as it says. Last, a written formula must be listed
- * and made, one outside the language refused at its place, and one that the list has no space for stopped.
- * Else the program says what differs and its status is 1.
+ * The paper's example, once by the calls and once as a case file. Both texts must be the paper's, and both must leave
+ * the same record, node words and list words. Where the check fails is found as a witness, and a text that does not fit
+ * its buffer must be refused. Then a read that is not enabled must give again what its port holds, and a write that is
+ * never enabled must be idle and change nothing. The header's example of counted entries must need exactly as many as
+ * it says. Last, a written formula must be listed and made, one outside the language refused at its place, and one that
+ * the list has no space for stopped. Else the program says what differs and its status is 1.
  */
 #include <stdio.h>
 #include <string.h>
@@ -43,8 +43,8 @@ static int failures = 0;
 /* A call that the example has accepted. */
 static void accept(const char *call, uint32_t row)
 {
-    if (row != 0) {
-        printf("%s: refused by row %u\n", call, (unsigned)row);
+    if (row != MD_ACCEPTED) {
+        printf("%s: refused by row %u: %s\n", call, (unsigned)row, md_reason(row));
         failures++;
     }
 }
@@ -68,33 +68,26 @@ static void put_number(struct memory *m, uint32_t number)
     put(m, digits);
 }
 
-/* A condition: 0, 1 or (v low high). */
+/* A condition's text, behind what is there. */
 static void put_condition(struct memory *m, uint32_t node)
 {
-    if (node < 2) {
-        put_number(m, node);
-        return;
-    }
-    put(m, "(");
-    put_number(m, m->nodes[3 * node]);
-    put(m, " ");
-    put_condition(m, m->nodes[3 * node + 1]);
-    put(m, " ");
-    put_condition(m, m->nodes[3 * node + 2]);
-    put(m, ")");
+    uint64_t length = 0;
+    accept("text", md_text(m->record, m->nodes, NODE_WORDS, node, (uint8_t *)m->text + m->length,
+                           TEXT_BYTES - m->length, &length));
+    m->length += (size_t)length;
 }
 
 static void by_calls(struct memory *m)
 {
-    static const uint32_t one[2] = {1, 0};
-    static const uint32_t zero[2] = {0, 1};
+    static const uint32_t one[2] = {MD_TRUE, MD_FALSE};
+    static const uint32_t zero[2] = {MD_FALSE, MD_TRUE};
     uint32_t a = 0, not_a = 0, place = 0;
     uint32_t symbolic[2];
     uint32_t answer[2] = {0, 0};
 
     accept("fresh", md_fresh(m->record, 1, 1, m->nodes, NODE_WORDS, m->ports));
     accept("variable", md_variable(m->record, m->nodes, NODE_WORDS, 8, &a));
-    accept("ite", md_ite(m->record, m->nodes, NODE_WORDS, a, 0, 1, &not_a));
+    accept("ite", md_ite(m->record, m->nodes, NODE_WORDS, a, MD_FALSE, MD_TRUE, &not_a));
 
     symbolic[0] = a;
     symbolic[1] = not_a;
@@ -108,7 +101,7 @@ static void by_calls(struct memory *m)
     put(m, ":");
     put_condition(m, answer[1]);
 
-    accept("check", md_check(m->record, m->nodes, NODE_WORDS, m->list, LIST_WORDS, 1, zero, 2, one, 2));
+    accept("check", md_check(m->record, m->nodes, NODE_WORDS, m->list, LIST_WORDS, MD_TRUE, zero, 2, one, 2));
     put(m, "\ncheck ");
     put_condition(m, m->record[MD_CHECKED]);
 
@@ -128,7 +121,7 @@ static void hold_words(const char *name, const uint32_t *one, const uint32_t *ot
 /* Port 0 holds what was read by it, and gives it again to a read that is not enabled. */
 static void hold_port(struct memory *m)
 {
-    static const uint32_t zero[2] = {0, 1};
+    static const uint32_t zero[2] = {MD_FALSE, MD_TRUE};
     uint32_t answer[2] = {0, 0};
     uint32_t held[2];
 
@@ -140,8 +133,8 @@ static void hold_port(struct memory *m)
 /* A write whose enable is 0 is idle, in a list that one entry fills, and leaves the memory as it was. */
 static void hold_idle(struct memory *m)
 {
-    static const uint32_t one[2] = {1, 0};
-    static const uint32_t zero[2] = {0, 1};
+    static const uint32_t one[2] = {MD_TRUE, MD_FALSE};
+    static const uint32_t zero[2] = {MD_FALSE, MD_TRUE};
     struct memory before = *m;
     uint32_t place = 0;
 
@@ -172,15 +165,41 @@ static void hold_text(const char *way, const struct memory *m)
     }
 }
 
-/* The write went to location 1 where a holds, and to location 0 elsewhere: only there is 0 certain to have 1. */
-static void hold_values(const struct memory *m)
+/* The write went to location 1 where variable 8 is 1, and to location 0 elsewhere: only there is 0 certain to have 1.
+   So the check fails where variable 8 is 1, and a witness of its complement says so. */
+static void hold_witness(struct memory *m)
 {
-    uint32_t where_a = 9, where_not_a = 9;
-    accept("evaluate", md_evaluate(m->record, m->nodes, NODE_WORDS, m->record[MD_CHECKED], UINT64_C(1) << 8, &where_a));
-    accept("evaluate", md_evaluate(m->record, m->nodes, NODE_WORDS, m->record[MD_CHECKED], 0, &where_not_a));
-    if (where_a != 0 || where_not_a != 1) {
-        printf("the check condition is %u where variable 8 is 1, %u where it is 0\n", (unsigned)where_a,
-               (unsigned)where_not_a);
+    uint32_t fails = MD_FALSE, there = 9, elsewhere = 9;
+    uint64_t witness = 0;
+
+    accept("ite", md_ite(m->record, m->nodes, NODE_WORDS, m->record[MD_CHECKED], MD_FALSE, MD_TRUE, &fails));
+    accept("witness", md_witness(m->record, m->nodes, NODE_WORDS, fails, &witness));
+    accept("evaluate", md_evaluate(m->record, m->nodes, NODE_WORDS, m->record[MD_CHECKED], witness, &there));
+    accept("evaluate", md_evaluate(m->record, m->nodes, NODE_WORDS, m->record[MD_CHECKED], 0, &elsewhere));
+    if (fails == MD_FALSE || witness != UINT64_C(1) << 8 || there != 0 || elsewhere != 1) {
+        printf("the check fails under assignment %llu, where its condition is %u; under 0 that is %u\n",
+               (unsigned long long)witness, (unsigned)there, (unsigned)elsewhere);
+        failures++;
+    }
+}
+
+/* The check condition's text, (8 1 0), fits seven bytes; six are all 0 after the refusal. */
+static void hold_short(const struct memory *m)
+{
+    static const uint8_t zeros[6] = {0, 0, 0, 0, 0, 0};
+    uint8_t text[7];
+    uint64_t length = UINT64_C(77);
+    uint32_t row;
+
+    memset(text, '?', sizeof text);
+    row = md_text(m->record, m->nodes, NODE_WORDS, m->record[MD_CHECKED], text, 6, &length);
+    if (row != MD_ROW_TEXT_FULL || length != 77 || memcmp(text, zeros, 6) != 0 || text[6] != '?') {
+        printf("a text in six bytes: %s\n", md_reason(row));
+        failures++;
+    }
+    accept("text", md_text(m->record, m->nodes, NODE_WORDS, m->record[MD_CHECKED], text, 7, &length));
+    if (length != 7 || memcmp(text, "(8 1 0)", 7) != 0) {
+        printf("a text in seven bytes: %.7s\n", (const char *)text);
         failures++;
     }
 }
@@ -188,20 +207,20 @@ static void hold_values(const struct memory *m)
 /* The header's example of counted entries, in a list of so many words: the row of its last access. */
 static uint32_t counted(struct memory *m, size_t list_words)
 {
-    static const uint32_t one[2] = {1, 0};
-    static const uint32_t zero[2] = {0, 1};
+    static const uint32_t one[2] = {MD_TRUE, MD_FALSE};
+    static const uint32_t zero[2] = {MD_FALSE, MD_TRUE};
     uint32_t a[2] = {0, 0};
     uint32_t out = 0;
 
     accept("fresh", md_fresh(m->record, 1, 1, m->nodes, NODE_WORDS, m->ports));
     accept("variable", md_variable(m->record, m->nodes, NODE_WORDS, 8, &a[0]));
-    accept("ite", md_ite(m->record, m->nodes, NODE_WORDS, a[0], 0, 1, &a[1]));
+    accept("ite", md_ite(m->record, m->nodes, NODE_WORDS, a[0], MD_FALSE, MD_TRUE, &a[1]));
     accept("write", md_write(m->record, m->nodes, NODE_WORDS, m->list, list_words, one, 2, zero, 2, one, 2, &out));
     accept("write", md_write(m->record, m->nodes, NODE_WORDS, m->list, list_words, a, 2, one, 2, zero, 2, &out));
     accept("write", md_write(m->record, m->nodes, NODE_WORDS, m->list, list_words, zero, 2, one, 2, one, 2, &out));
-    accept("assert", md_assert(m->record, m->nodes, NODE_WORDS, m->list, list_words, 1, zero, 2, one, 2, &out));
+    accept("assert", md_assert(m->record, m->nodes, NODE_WORDS, m->list, list_words, MD_TRUE, zero, 2, one, 2, &out));
     accept("assert", md_assert(m->record, m->nodes, NODE_WORDS, m->list, list_words, a[0], one, 2, zero, 2, &out));
-    return md_assert(m->record, m->nodes, NODE_WORDS, m->list, list_words, 1, one, 2, zero, 2, &out);
+    return md_assert(m->record, m->nodes, NODE_WORDS, m->list, list_words, MD_TRUE, one, 2, zero, 2, &out);
 }
 
 /* The example needs three entries: with three its last access is accepted, and with two it meets 8. */
@@ -210,7 +229,7 @@ static void hold_count(struct memory *m)
     uint32_t entries;
     for (entries = 2; entries <= 3; entries++) {
         uint32_t row = counted(m, entries * ENTRY_WORDS);
-        if (row != (entries == 3 ? 0 : 8) || m->record[MD_ENTRIES] != entries) {
+        if (row != (entries == 3 ? MD_ACCEPTED : MD_ROW_LIST_FULL) || m->record[MD_ENTRIES] != entries) {
             printf("%u entries lent: row %u, and %u entries\n", (unsigned)entries, (unsigned)row,
                    (unsigned)m->record[MD_ENTRIES]);
             failures++;
@@ -270,11 +289,11 @@ static void hold_formulas(struct memory *m)
 
     begin(m);
     t = formula(m, 1, LIST_WORDS, right);
-    hold_told(right, t, 0, 2, 2, UNTOLD);
+    hold_told(right, t, MD_ACCEPTED, 2, 2, UNTOLD);
     hold_words("what the formula lists", t.answer, triples, 6);
     t = formula(m, 0, LIST_WORDS, right);
-    hold_told(right, t, 0, 2, 2, UNTOLD);
-    if (m->record[MD_ENTRIES] != 2 || m->record[MD_CHECKED] != 1) {
+    hold_told(right, t, MD_ACCEPTED, 2, 2, UNTOLD);
+    if (m->record[MD_ENTRIES] != 2 || m->record[MD_CHECKED] != MD_TRUE) {
         printf("`%s`: %u entries, check condition %u\n", right, (unsigned)m->record[MD_ENTRIES],
                (unsigned)m->record[MD_CHECKED]);
         failures++;
@@ -283,7 +302,7 @@ static void hold_formulas(struct memory *m)
     /* A fault leaves the memory and the answer as they were, and says where it stands. */
     before = *m;
     t = formula(m, 1, LIST_WORDS, outside);
-    hold_told(outside, t, 15, UNTOLD, UNTOLD, 5);
+    hold_told(outside, t, MD_ROW_FORMULA, UNTOLD, UNTOLD, 5);
     hold_words("the answer after a fault", t.answer, unwritten, 6);
     hold_words("record after a fault", m->record, before.record, MD_RECORD);
     hold_words("nodes after a fault", m->nodes, before.nodes, NODE_WORDS);
@@ -292,7 +311,7 @@ static void hold_formulas(struct memory *m)
     /* In a list of one entry the first assert is made, and the second has no space. */
     begin(m);
     t = formula(m, 1, ENTRY_WORDS, both);
-    hold_told(both, t, 8, 2, 1, UNTOLD);
+    hold_told(both, t, MD_ROW_LIST_FULL, 2, 1, UNTOLD);
     hold_words("what the stopped formula lists", t.answer, ordered, 6);
     if (m->record[MD_ENTRIES] != 1) {
         printf("`%s`: %u entries\n", both, (unsigned)m->record[MD_ENTRIES]);
@@ -312,7 +331,8 @@ int main(void)
     hold_words("record", calls.record, whole.record, MD_RECORD);
     hold_words("nodes", calls.nodes, whole.nodes, NODE_WORDS);
     hold_words("list", calls.list, whole.list, LIST_WORDS);
-    hold_values(&calls);
+    hold_witness(&calls);
+    hold_short(&calls);
     hold_port(&calls);
     hold_idle(&calls);
     hold_count(&budget);

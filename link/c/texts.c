@@ -54,7 +54,7 @@ static int told(size_t length)
     begin();
     row = md_check_formula(record, nodes, NODE_WORDS, list, LIST_WORDS, text, length, TABLE, 6, answer, ANSWER_WORDS, &listed,
                            &made, &place);
-    if (row == 0) {
+    if (row == MD_ACCEPTED) {
         if (listed > 15 || made != listed || place != UNTOLD
             || !same(answer + 3 * listed, untouched, ANSWER_WORDS - 3 * (size_t)listed))
             return 255;
@@ -63,9 +63,9 @@ static int told(size_t length)
     if (listed != UNTOLD || made != UNTOLD || !same(record, RECORD, MD_RECORD) || !same(nodes, STORE, 3 * NODES)
         || !same(answer, untouched, ANSWER_WORDS))
         return 255;
-    if ((row != 15 && row != 16) || place < before || place - before > 14)
+    if ((row != MD_ROW_FORMULA && row != MD_ROW_NESTING) || place < before || place - before > 14)
         return 255;
-    return (row == 15 ? 16 : 32) + (int)(place - before);
+    return (row == MD_ROW_FORMULA ? 16 : 32) + (int)(place - before);
 }
 
 static void all(size_t length, size_t most)

@@ -1,14 +1,13 @@
-//! The paper's example by the calls: 1 is written to location 1 or 0, as variable 8 says; then location
+//! The paper's example by the calls on lent words: 1 is written to location 1 or 0, as variable 8 says; then location
 //! 0 is read, and checked against 1.
 
 use mangerday::{Ports, Record, Refused, Written};
 
 /// A condition's text: 0, 1 or (v low high).
-fn text(nodes: &[u32], node: u32) -> String {
-    match &nodes[3 * node as usize..][..3] {
-        [v, low, high] if node > 1 => format!("({v} {} {})", text(nodes, *low), text(nodes, *high)),
-        _ => node.to_string(),
-    }
+fn text(memory: &Record, nodes: &[u32], node: u32) -> Result<String, Refused> {
+    let mut bytes = [0; 256];
+    let length = memory.text(nodes, node, &mut bytes)?;
+    Ok(String::from_utf8_lossy(&bytes[..length]).into_owned())
 }
 
 fn main() -> Result<(), Refused> {
@@ -23,9 +22,9 @@ fn main() -> Result<(), Refused> {
         Written::Idle => println!("write idle"),
     }
     memory.read(&mut nodes, &list, &mut ports, 0, &one, &zero, &mut word)?;
-    println!("read {}:{}", text(&nodes, word[0]), text(&nodes, word[1]));
+    println!("read {}:{}", text(&memory, &nodes, word[0])?, text(&memory, &nodes, word[1])?);
     memory.check(&mut nodes, &list, 1, &zero, &one)?;
-    println!("check {}", text(&nodes, memory.checked));
+    println!("check {}", text(&memory, &nodes, memory.checked)?);
     println!("end {}", memory.entries);
     Ok(())
 }

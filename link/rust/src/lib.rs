@@ -1,5 +1,8 @@
 //! The symbolic memory model for simulators in Rust: safe calls over the archive of the proved functions.
 //!
+//! A [`Memory`] owns all the words of a memory, and is what a simulator needs. What follows are the same calls on words
+//! that the caller lends, as in C: for memories in buffers of the caller's own.
+//!
 //! A condition is a node, a number; the nodes are three words each in a lent slice: variable, low
 //! child, high child. Node 0 is false, node 1 true. A pair of nodes `h, l` stands for a bit that may
 //! be 1 where `h` holds and 0 where `l` holds: `1, 0` is 1, `0, 1` is 0, `1, 1` is X. An address is n
@@ -8,9 +11,9 @@
 //! left them, and so do the read [`Ports`], which `fresh` begins and `read` alone sees.
 //!
 //! Any words may be lent. A call tests its rows of the panel's table in the order listed for it. One that
-//! is turned down answers [`Refused`] with the row's number and leaves record, nodes below the count,
-//! list, ports and answer words as they were; a formula that is stopped at one of its accesses leaves those
-//! that were made before it.
+//! is turned down answers [`Refused`] with the row's number, which [`mod@row`] names, and leaves record, nodes
+//! below the count, list, ports and answer words as they were; a formula that is stopped at one of its
+//! accesses leaves those that were made before it. A refusal is shown with its row's sentence.
 //!
 //! ```
 //! use mangerday::{Ports, Record, Written};
@@ -32,6 +35,10 @@
 //! // Port 0 now holds that word, and gives it again where it is not enabled.
 //! memory.read(&mut nodes, &list, &mut ports, 0, &[0, 1], &[1, 0], &mut word)?;
 //! assert_eq!(word, [1, a]);
+//! // A condition's text, and an assignment under which it holds.
+//! let mut text = [0; 7];
+//! assert_eq!(memory.text(&nodes, a, &mut text)?, 7);
+//! assert_eq!((&text, memory.witness(&nodes, a)?), (b"(8 0 1)", Some(1 << 8)));
 //! # Ok::<(), mangerday::Refused>(())
 //! ```
 //!
@@ -72,12 +79,34 @@
 //!
 //! A call needs up to [`STACK`] bytes of stack and no heap; nothing is kept between calls.
 
+mod memory;
 pub mod raw;
+
+/// The rows of the panel's table by their names, each with its sentence, as in `include/mangerday.h`.
+pub mod row {
+    include!(concat!(env!("OUT_DIR"), "/row.rs"));
+}
+
+pub use memory::{run_case, word, Bit, Condition, Listed, Memory, Predicate, TEXT_LIMIT};
 
 use std::fmt;
 
 /// The stack that a call needs at most, in bytes, with some to spare.
 pub const STACK: usize = 1 << 20;
+
+/// The nodes that a memory may have at most, 0 and 1 among them.
+pub const NODE_LIMIT: usize = 16_384;
+
+/// The entries that a memory may have at most.
+pub const ENTRY_LIMIT: usize = 4_096;
+
+/// The sentence of a row, `accepted` for 0, and `no row of the table` for a number that no call returns.
+pub fn reason(row: u32) -> &'static str {
+    match row {
+        0 => "accepted",
+        _ => row::SENTENCES.get(row as usize - 1).copied().unwrap_or("no row of the table"),
+    }
+}
 
 /// A memory of `n` address bits and `w` data bits: its counts of nodes and entries, and its two conditions.
 ///
@@ -154,15 +183,45 @@ pub struct Case {
     pub record: Record,
 }
 
-impl fmt::Display for Refused {
-    fn fmt(&self, f: &mut fmt::Formatter<'_>) -> fmt::Result {
-        write!(f, "refused {}", self.0)
+impl Refused {
+    /// The row's sentence.
+    pub fn reason(&self) -> &'static str {
+        reason(self.0)
     }
 }
 
+impl CaseRefused {
+    /// The row's sentence.
+    pub fn reason(&self) -> &'static str {
+        reason(self.row)
+    }
+}
+
+impl FormulaRefused {
+    /// The row's number.
+    pub fn row(&self) -> u32 {
+        match self {
+            FormulaRefused::Whole(Refused(row)) => *row,
+            FormulaRefused::Text { row, .. } | FormulaRefused::Stopped { row, .. } => *row,
+        }
+    }
+
+    /// The row's sentence.
+    pub fn reason(&self) -> &'static str {
+        reason(self.row())
+    }
+}
+
+impl fmt::Display for Refused {
+    fn fmt(&self, f: &mut fmt::Formatter<'_>) -> fmt::Result {
+        write!(f, "refused {}: {}", self.0, self.reason())
+    }
+}
+
+/// As `memcase` prints it, and the sentence behind.
 impl fmt::Display for CaseRefused {
     fn fmt(&self, f: &mut fmt::Formatter<'_>) -> fmt::Result {
-        write!(f, "refused {} after {}", self.row, self.after)
+        write!(f, "refused {} after {}: {}", self.row, self.after, self.reason())
     }
 }
 
@@ -170,8 +229,8 @@ impl fmt::Display for FormulaRefused {
     fn fmt(&self, f: &mut fmt::Formatter<'_>) -> fmt::Result {
         match self {
             FormulaRefused::Whole(refused) => refused.fmt(f),
-            FormulaRefused::Text { row, place } => write!(f, "refused {row} at {place}"),
-            FormulaRefused::Stopped { row, made, .. } => write!(f, "refused {row} after {made}"),
+            FormulaRefused::Text { row, place } => write!(f, "refused {row} at {place}: {}", reason(*row)),
+            FormulaRefused::Stopped { row, made, .. } => write!(f, "refused {row} after {made}: {}", reason(*row)),
         }
     }
 }
@@ -216,6 +275,22 @@ impl Record {
         let mut value = 0;
         let row = unsafe { raw::md_evaluate(self, nodes.as_ptr(), nodes.len(), node, assignment, &mut value) };
         answer(row, value == 1)
+    }
+
+    /// A condition's text, `0`, `1` or `(v low high)`, from the first byte of `text` on: how many bytes it is. Later
+    /// bytes stay as they are. A text that does not fit meets 13, and leaves every byte 0. Meets 1, 2, 5, 13.
+    pub fn text(&self, nodes: &[u32], node: u32, text: &mut [u8]) -> Result<usize, Refused> {
+        let (bytes, lent, mut length) = (text.as_mut_ptr(), text.len(), 0);
+        let row = unsafe { raw::md_text(self, nodes.as_ptr(), nodes.len(), node, bytes, lent, &mut length) };
+        answer(row, length as usize)
+    }
+
+    /// An assignment under which a node holds, in which bit v is variable v; none of node 0, which holds nowhere.
+    /// Meets 1, 2, 5.
+    pub fn witness(&self, nodes: &[u32], node: u32) -> Result<Option<u64>, Refused> {
+        let mut assignment = 0;
+        let row = unsafe { raw::md_witness(self, nodes.as_ptr(), nodes.len(), node, &mut assignment) };
+        answer(row, if node == 0 { None } else { Some(assignment) })
     }
 
     /// The node of a user variable, 8 to 63. Meets 1, 2, 5, 9.

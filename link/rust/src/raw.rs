@@ -24,6 +24,24 @@ extern "C" {
         value: *mut u32,
     ) -> u32;
 
+    pub fn md_text(
+        record: *const Record,
+        nodes: *const u32,
+        nodes_length: usize,
+        node: u32,
+        text: *mut u8,
+        text_length: usize,
+        length: *mut u64,
+    ) -> u32;
+
+    pub fn md_witness(
+        record: *const Record,
+        nodes: *const u32,
+        nodes_length: usize,
+        node: u32,
+        assignment: *mut u64,
+    ) -> u32;
+
     pub fn md_variable(record: *mut Record, nodes: *mut u32, nodes_length: usize, variable: u32, node: *mut u32)
         -> u32;
 

@@ -38,7 +38,8 @@ fn faults() {
     ] {
         let refused = memory.assert_formula(&mut nodes, &mut list, text, &TABLE, &mut answer);
         assert_eq!(refused, Err(FormulaRefused::Text { row, place }));
-        assert_eq!(refused.unwrap_err().to_string(), format!("refused {row} at {place}"));
+        let said = format!("refused {row} at {place}: {}", mangerday::reason(row));
+        assert_eq!(refused.unwrap_err().to_string(), said);
     }
     let refused = memory.check_formula(&mut nodes, &list, b"m0 & m1 & m0", &TABLE, &mut answer);
     assert_eq!(refused, Err(FormulaRefused::Whole(Refused(13))));

@@ -2,7 +2,7 @@
 //! and every word of every buffer, as the second program found them. `tests/README.md` and
 //! `tools/storedcases.py` say how the inputs are laid out.
 
-use mangerday::{case, raw, Asserted, FormulaRefused, Ports, Record, Refused, Written};
+use mangerday::{case, raw, row, Asserted, FormulaRefused, Ports, Record, Refused, Written};
 use std::fmt::Write;
 use std::{fs, thread};
 
@@ -265,6 +265,8 @@ fn small_stack() {
         let deep = [b"N".repeat(32), b"m0".to_vec()].concat();
         let done = record.assert_formula(&mut nodes, &mut list, &deep, &table, &mut answer);
         assert_eq!(done, Ok(1));
+        assert_eq!(record.text(&nodes, odd, &mut [0; 4096]), Err(Refused(row::TEXT_FULL)));
+        assert_eq!(record.witness(&nodes, odd)?, Some(1 << 63));
         Ok::<(), Refused>(())
     };
     let thread = thread::Builder::new().stack_size(mangerday::STACK).spawn(run).expect("a thread");
