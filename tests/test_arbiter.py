@@ -17,7 +17,8 @@ import unittest
 from concurrent.futures import ThreadPoolExecutor
 
 from rooms import ROOT, TOOLS
-import arbiter
+import judging
+import reporttext
 import runs
 import storedcases
 from reference import TEXT_BYTES, memcase
@@ -67,9 +68,9 @@ class Folders(unittest.TestCase):
         for name in names:
             self.put(name + ".case", storedcases.named(name).data)
 
-    def arbitrate(self, first, second, *options, memcase=REFERENCE):
-        """The arbiter's status and what it printed."""
-        words = [sys.executable, os.path.join(TOOLS, "arbiter.py"), self.folder, first, second, *options]
+    def arbitrate(self, *words, memcase=REFERENCE):
+        """The arbiter's status and what it printed, given commands and options."""
+        words = [sys.executable, os.path.join(TOOLS, "arbiter.py"), self.folder, *words]
         if memcase is not None:
             words += ["--memcase", memcase]
         done = subprocess.run(words, stdout=subprocess.PIPE, stderr=subprocess.PIPE, check=False)
@@ -101,187 +102,209 @@ class Verdicts(Folders):
             "4 cases",
             "first: agreed 4, differs 0, hung 0, crashed 0",
             "second: agreed 4, differs 0, hung 0, crashed 0",
+            "",
             "left out: 1 file not named .case or .txt",
         ], simulator("right"), simulator("complains"))
 
     def test_all_rows(self):
         self.put("inner/worked.txt", open_text("examples/worked.txt"))
         self.expect(0, [
-            "case              A        second one",
-            "inner/worked.txt  agreed   agreed",
-            "worked.case       agreed   agreed",
-            "",
             "2 cases",
             "A: agreed 2, differs 0, hung 0, crashed 0",
             "second one: agreed 2, differs 0, hung 0, crashed 0",
+            "",
+            "case              A        second one",
+            "inner/worked.txt  agreed   agreed",
+            "worked.case       agreed   agreed",
         ], simulator("right"), simulator("right"), "--all", "--names", "A", "second one")
 
     def test_differs(self):
         self.put_stored("ruling-01", "ruling-02")
         self.expect(1, [
-            "case            first    second",
-            "ruling-01.case  agreed   differs",
-            "  second differs from line 1, byte 8",
+            "3 cases",
+            "first: agreed 3, differs 0, hung 0, crashed 0",
+            "second: agreed 2, differs 1 (sharper 1), hung 0, crashed 0",
+            "",
+            "second differs, sharper, read: 1 case",
+            "  access 1 (read), bit 0, under every assignment: memcase admits 0 and 1, the simulator 1",
+            "  ruling-01.case, line 1, byte 8",
             "    memcase  read 1:1",
             "    second   read 1:0",
             "",
-            "3 cases",
-            "first: agreed 3, differs 0, hung 0, crashed 0",
-            "second: agreed 2, differs 1, hung 0, crashed 0",
-        ], simulator("right"), simulator("loses-unknown"))
+            "case            first    second",
+            "ruling-01.case  agreed   differs",
+            "  second differs, sharper: line 1, byte 8",
+            "    memcase  read 1:1",
+            "    second   read 1:0",
+        ], simulator("right"), simulator("loses-unknown"), "--table")
+
+    def test_one_simulator(self):
+        """One alone is judged too, with a name of its own."""
+        self.put_stored("ruling-01")
+        for names, name in (([], "first"), (["--names", "Only"], "Only")):
+            self.expect(1, [
+                "2 cases",
+                name + ": agreed 1, differs 1 (sharper 1), hung 0, crashed 0",
+                "",
+                name + " differs, sharper, read: 1 case",
+                "  access 1 (read), bit 0, under every assignment: memcase admits 0 and 1, the simulator 1",
+                "  ruling-01.case, line 1, byte 8",
+                "    memcase  read 1:1",
+                "    %-7s  read 1:0" % name,
+            ], simulator("loses-unknown"), *names)
 
     def test_ports(self):
-        """One that forgets what a port holds, and one that holds across ports."""
+        """One that forgets what a port holds, and one that holds across ports: each is one group, shown by its
+        smallest case."""
         self.put_stored("ports-apart", "ports-kept", "ruling-10", "ruling-10-last")
         self.expect(1, [
-            "case                 first    second",
-            "ports-apart.case     differs  differs",
-            "  first differs from line 9, byte 8",
-            "    memcase  read 1:0 1:0",
-            "    first    read 1:1 1:1",
-            "  second differs from line 9, byte 6",
-            "    memcase  read 1:0 1:0",
-            "    second   read 0:1 0:1",
-            "ports-kept.case      differs  agreed",
-            "  first differs from line 4, byte 8",
-            "    memcase  read 1:0 0:1",
-            "    first    read 1:1 1:1",
-            "ruling-10-last.case  differs  agreed",
-            "  first differs from line 3, byte 8",
+            "5 cases",
+            "first: agreed 2, differs 3 (looser 3), hung 0, crashed 0",
+            "second: agreed 4, differs 1 (other 1), hung 0, crashed 0",
+            "",
+            "first differs, looser, read: 3 cases",
+            "  access 3 (read), bit 0, under every assignment: memcase admits 1, the simulator 0 and 1",
+            "  ruling-10-last.case, line 3, byte 8",
             "    memcase  read 1:0",
             "    first    read 1:1",
+            "  and in",
+            "    ports-apart.case",
+            "    ports-kept.case",
             "",
-            "5 cases",
-            "first: agreed 2, differs 3, hung 0, crashed 0",
-            "second: agreed 4, differs 1, hung 0, crashed 0",
+            "second differs, other, read: 1 case",
+            "  access 9 (read), bit 0, under every assignment: memcase admits 1, the simulator 0",
+            "  ports-apart.case, line 9, byte 6",
+            "    memcase  read 1:0 1:0",
+            "    second   read 0:1 0:1",
         ], simulator("forgets-held-word"), simulator("holds-across-ports"))
 
     def test_idle_writes(self):
         """One that gives idle writes a place, and one that only counts them; both are right where there are none."""
         self.put_stored("idle-first", "ruling-09", "ruling-02")
         self.expect(1, [
-            "case             first    second",
-            "idle-first.case  differs  differs",
-            "  first differs from line 1, byte 7",
+            "4 cases",
+            "first: agreed 2, differs 2 (other 2), hung 0, crashed 0",
+            "second: agreed 2, differs 2 (other 2), hung 0, crashed 0",
+            "",
+            "first differs, other, write: 2 cases",
+            "  access 1 (write): idle in memcase's text, place 0 in the simulator's",
+            "  ruling-09.case, line 1, byte 7",
             "    memcase  write idle",
             "    first    write 0",
-            "  second differs from line 7, byte 5",
-            "    memcase  end 1",
-            "    second   end 4",
-            "ruling-09.case   differs  differs",
-            "  first differs from line 1, byte 7",
-            "    memcase  write idle",
-            "    first    write 0",
-            "  second differs from line 3, byte 5",
+            "  and in",
+            "    idle-first.case",
+            "",
+            "second differs, other, end: 2 cases",
+            "  the last line: 0 entries in memcase's text, 1 entry in the simulator's",
+            "  ruling-09.case, line 3, byte 5",
             "    memcase  end 0",
             "    second   end 1",
-            "",
-            "4 cases",
-            "first: agreed 2, differs 2, hung 0, crashed 0",
-            "second: agreed 2, differs 2, hung 0, crashed 0",
+            "  and in",
+            "    idle-first.case",
         ], simulator("enters-idle-writes"), simulator("counts-idle-writes"))
 
     def test_counts(self):
         """One that counts kept asserts, and one that counts what differs only where b does not hold; both are
         right where every assert is entered."""
         self.put_stored("example-budget", "row-07-data", "row-07-apart")
-        self.expect(1, [
-            "case                 first    second",
-            "example-budget.case  differs  differs",
-            "  first differs from line 9, byte 5",
-            "    memcase  end 3",
-            "    first    end 5",
-            "  second differs from line 9, byte 5",
-            "    memcase  end 3",
-            "    second   end 4",
-            "row-07-data.case     differs  agreed",
-            "  first differs from line 6, byte 5",
-            "    memcase  end 3",
-            "    first    end 4",
-            "",
+        status, out = self.arbitrate(simulator("counts-kept-asserts"), simulator("counts-asserts-outside-b"))
+        lines = out.splitlines()
+        self.assertEqual((status, lines[:3]), (1, [
             "4 cases",
-            "first: agreed 2, differs 2, hung 0, crashed 0",
-            "second: agreed 3, differs 1, hung 0, crashed 0",
-        ], simulator("counts-kept-asserts"), simulator("counts-asserts-outside-b"))
+            "first: agreed 2, differs 2 (other 2), hung 0, crashed 0",
+            "second: agreed 3, differs 1 (other 1), hung 0, crashed 0"]))
+        self.assertEqual([line for line in lines if " differs, " in line],
+                         ["first differs, other, end: 2 cases", "second differs, other, end: 1 case"])
 
     def test_hung(self):
         self.expect(1, [
-            "case         first    second",
-            "worked.case  hung     agreed",
-            "  first hung: it had not ended after 2 seconds",
-            "",
             "1 case",
             "first: agreed 0, differs 0, hung 1, crashed 0",
             "second: agreed 1, differs 0, hung 0, crashed 0",
+            "",
+            "first hung, it had not ended after 2 seconds: 1 case",
+            "  worked.case: it had not ended after 2 seconds",
         ], simulator("hangs"), simulator("right"), "--seconds", "2")
+
+    def test_many_hung(self):
+        """After so many hung runs a simulator is no longer run; where all are given up, the rest costs no time."""
+        for number in range(60):
+            self.put("%02d.case" % number, WORKED)
+        begun = time.monotonic()
+        status, out = self.arbitrate(simulator("hangs"), "--seconds", str(SOON), "--hangs", "2", "--jobs", "1")
+        self.assertLess(time.monotonic() - begun, 20)
+        self.assertEqual((status, out.splitlines()[:3]), (1, [
+            "61 cases",
+            "first: agreed 0, differs 0, hung 2, crashed 0, not run 59",
+            "  no longer run after 2 hung runs (--hangs)"]))
+        status, out = self.arbitrate(simulator("right"), "--seconds", str(SOON), "--hangs", "1", "--jobs", "1",
+                                     memcase=simulator("hangs"))
+        self.assertEqual((status, out.splitlines()[:3]), (2, [
+            "61 cases",
+            "first: agreed 0, differs 0, hung 0, crashed 0",
+            "memcase failed: no verdict in 61 cases"]))
 
     def test_crashed(self):
         self.expect(1, [
+            "1 case",
+            "first: agreed 0, differs 0, hung 0, crashed 1",
+            "second: agreed 0, differs 0, hung 0, crashed 1",
+            "",
+            "first crashed, it ended by signal 15 (SIGTERM): 1 case",
+            "  worked.case: it ended by signal 15 (SIGTERM)",
+            "",
+            "second crashed, it ended with status 1: 1 case",
+            "  worked.case: it ended with status 1: has expired",
+            "",
             "case         first    second",
             "worked.case  crashed  crashed",
             "  first crashed: it ended by signal 15 (SIGTERM)",
             "  second crashed: it ended with status 1: has expired",
-            "",
-            "1 case",
-            "first: agreed 0, differs 0, hung 0, crashed 1",
-            "second: agreed 0, differs 0, hung 0, crashed 1",
-        ], simulator("ends-by-signal"), simulator("ends-with-status"))
+        ], simulator("ends-by-signal"), simulator("ends-with-status"), "--table")
 
     def test_crashed_after_the_right_text(self):
         self.expect(1, [
-            "case         first    second",
-            "worked.case  crashed  agreed",
-            "  first crashed: it ended with status 3, and its text was right",
-            "",
             "1 case",
             "first: agreed 0, differs 0, hung 0, crashed 1",
             "second: agreed 1, differs 0, hung 0, crashed 0",
+            "",
+            "first crashed, it ended with status 3: 1 case",
+            "  worked.case: it ended with status 3, and its text was right",
         ], simulator("ends-with-status-after-text"), simulator("right"))
 
     def test_without_end_and_without_input(self):
         self.expect(1, [
-            "case         first    second",
-            "worked.case  differs  differs",
-            "  first differs from line 2, byte 1",
+            "1 case",
+            "first: agreed 0, differs 1 (no text 1), hung 0, crashed 0",
+            "second: agreed 0, differs 1 (no text 1), hung 0, crashed 0",
+            "",
+            "first differs, no text, case: 1 case",
+            "  the case: no text of it: the simulator wrote more than 65536 bytes",
+            "  worked.case, line 2, byte 1",
             "    memcase  read 1:(8 0 1)",
             "    first    write 0",
             "    first wrote more than 65536 bytes and was stopped",
-            "  second differs from line 1, byte 1",
+            "",
+            "second differs, no text, case: 1 case",
+            "  the case: no text of it: the simulator wrote nothing",
+            "  worked.case, line 1, byte 1",
             "    memcase  write 0",
             "    second   (no line)",
-            "",
-            "1 case",
-            "first: agreed 0, differs 1, hung 0, crashed 0",
-            "second: agreed 0, differs 1, hung 0, crashed 0",
         ], simulator("writes-without-end"), simulator("reads-nothing"))
 
     def test_wrong_alike(self):
         """Two are wrong alike where their first wrong line is the same, and not where it is another."""
         self.put_stored("ruling-01", "example-registers")
-        self.expect(1, [
-            "case                    first    second",
-            "example-registers.case  differs  differs",
-            "  first differs from line 14, byte 16",
-            "    memcase  read 0:1 1:0 1:1 1:1",
-            "    first    read 0:1 1:0 1:0 1:0",
-            "  second differs from line 14, byte 16",
-            "    memcase  read 0:1 1:0 1:1 1:1",
-            "    second   read 0:1 1:0 1:0 1:0",
-            "ruling-01.case          differs  differs",
-            "  first differs from line 1, byte 8",
-            "    memcase  read 1:1",
-            "    first    read 1:0",
-            "  second differs from line 1, byte 8",
-            "    memcase  read 1:1",
-            "    second   read 1:0",
-            "",
+        status, out = self.arbitrate(simulator("loses-unknown"), simulator("loses-unknown"))
+        lines = out.splitlines()
+        self.assertEqual((status, lines[:3]), (1, [
             "3 cases",
-            "first: agreed 1, differs 2, hung 0, crashed 0",
-            "second: agreed 1, differs 2, hung 0, crashed 0",
-            "first and second differ from memcase in the same way in 2 cases:",
+            "first: agreed 1, differs 2 (sharper 2), hung 0, crashed 0",
+            "second: agreed 1, differs 2 (sharper 2), hung 0, crashed 0"]))
+        self.assertEqual(lines[-3:], [
+            "first and second differ from memcase in the same way: 2 cases",
             "  example-registers.case",
-            "  ruling-01.case",
-        ], simulator("loses-unknown"), simulator("loses-unknown"))
+            "  ruling-01.case"])
         self.assertNotIn("same way", self.arbitrate(simulator("loses-unknown"), simulator("writes-nothing"))[1])
 
     def test_memcase_fails(self):
@@ -294,16 +317,68 @@ class Verdicts(Folders):
                          ("writes-nothing", NOT_WHOLE)):
             with self.subTest(way):
                 self.expect(2, [
-                    "case         first    second",
-                    "worked.case  -        -",
-                    "  no verdict: memcase " + how,
-                    "",
                     "1 case",
                     "first: agreed 0, differs 0, hung 0, crashed 0",
                     "second: agreed 0, differs 0, hung 0, crashed 0",
                     "memcase failed: no verdict in 1 case",
-                ], simulator("right"), simulator("loses-unknown"),
+                    "",
+                    "no verdict: memcase failed in 1 case",
+                    "  worked.case: " + how,
+                    "",
+                    "case         first    second",
+                    "worked.case  -        -",
+                    "  no verdict: memcase " + how,
+                ], simulator("right"), simulator("loses-unknown"), "--table",
                     "--seconds", str(SOON if way == "hangs" else SECONDS), memcase=simulator(way))
+
+    def test_many_names(self):
+        """A group names some of its cases, and with --all all of them."""
+        for number in range(9):
+            self.put("%d.txt" % number, b"memory n=1 w=1\nread enable=1 address=0\n")
+        status, out = self.arbitrate(simulator("loses-unknown"))
+        self.assertEqual((status, out.splitlines()[-7:]), (1, [
+            "  and in", *("    %d.txt" % number for number in range(1, 6)), "    and 3 more (--all names them)"]))
+        out = self.arbitrate(simulator("loses-unknown"), "--all")[1]
+        self.assertIn("  and in\n%s\n" % "".join("    %d.txt\n" % number for number in range(1, 9)), out)
+
+
+class StrayTexts(Folders):
+    """Files that are named as cases and are none do not end the run."""
+
+    def test_left_out(self):
+        """The status is as without them."""
+        self.put("worked.case", WORKED)
+        self.put("a.txt", b"memory n=1 w=1\nrite\n")
+        self.put("b\x1b[2J.txt", b"\xff")
+        self.put("long.txt", b"x" * 5000000)
+        self.put("notes", b"")
+        os.symlink("nowhere", os.path.join(self.folder, "c.case"))
+        os.mkfifo(os.path.join(self.folder, "d.txt"))
+        with open(os.path.join(self.folder, "huge.txt"), "wb") as file:
+            file.truncate(1 << 30)
+        left_out = [
+            "left out: a.txt is no text of a case: line 2: unknown word `rite`",
+            "left out: b\\x1b[2J.txt is no text; a case file is named .case",
+            "left out: c.case is no file",
+            "left out: d.txt is no file",
+            "left out: huge.txt is longer than 16777216 bytes: no case and no text of one is",
+            "left out: 1 file not named .case or .txt"]
+        status, out = self.arbitrate(simulator("right"))
+        self.assertEqual((status, self.errors), (0, ""))
+        lines = out.splitlines()
+        self.assertEqual(lines[:3], ["1 case", "first: agreed 1, differs 0, hung 0, crashed 0", ""])
+        self.assertEqual([line.split("; a line begins")[0] for line in lines[3:] if "long.txt" not in line], left_out)
+        self.assertEqual([len(line) < 400 for line in lines if "long.txt" in line], [True])
+        self.assertEqual(self.arbitrate(simulator("loses-unknown"))[0], 0)
+        self.assertEqual(self.arbitrate(simulator("ends-with-status"))[0], 1)
+
+    def test_nothing_left(self):
+        self.put("a.txt", b"memory n=1 w=1\nrite\n")
+        status, out = self.arbitrate(simulator("right"))
+        self.assertEqual((status, self.errors),
+                         (2, "arbiter: nothing was run: no file of %s is a case\n" % self.folder))
+        self.assertEqual(out.splitlines()[0], "0 cases")
+        self.assertIn("left out: a.txt is no text of a case: line 2: unknown word `rite`", out)
 
 
 def open_text(name):
@@ -314,12 +389,6 @@ class MisuseTest(Folders):
     def test_folder(self):
         right = simulator("right")
         self.expect_misuse("no case in %s: no file is named .case or .txt" % self.folder, right, right)
-        self.put("a.txt", b"memory n=1 w=1\nrite\n")
-        self.expect_misuse("a.txt is no text of a case: line 2: unknown word `rite`; a line begins with "
-                           "memory, node, write, read, assert or check", right, right)
-        os.remove(os.path.join(self.folder, "a.txt"))
-        os.symlink("nowhere", os.path.join(self.folder, "b.case"))
-        self.expect_misuse("b.case is no file", right, right)
         self.folder += "/none"
         self.expect_misuse("no folder " + self.folder, right, right)
 
@@ -336,8 +405,18 @@ class MisuseTest(Folders):
         self.expect_misuse("no program no-such-judge", right, right, memcase="no-such-judge")
         self.expect_misuse("--seconds must be above 0", right, right, "--seconds", "nan")
         self.expect_misuse("--jobs must be 1 or more", right, right, "--jobs", "0")
+        self.expect_misuse("--hangs must be 0 or more", right, "--hangs", "-1")
         self.expect_misuse("the simulators need two names, neither of them memcase", right, right,
                            "--names", "A", "A")
+        self.expect_misuse("the simulator needs a name other than memcase", right, "--names", "memcase")
+        self.expect_misuse("--names takes as many names as there are simulators", right, right, "--names", "A")
+        self.expect_misuse("one simulator or two, each command as one word in quotation marks, and not 3", right, right,
+                           right)
+        self.expect_misuse("the following arguments are required: COMMAND; --help has the usage")
+        self.expect_misuse("--shard is I/N with I from 1 to N, as 2/8, and not 3/2", right, "--shard", "3/2")
+        self.expect_misuse("no folder %s/none for a.json: make it first" % self.folder, right,
+                           "--json", self.folder + "/none/a.json")
+        self.expect_misuse("%s is a folder: name a file" % self.folder, right, "--html", self.folder)
 
 
 class Runs(unittest.TestCase):
@@ -406,62 +485,67 @@ class Comparing(unittest.TestCase):
         whole = [b"end 0\n", WORKED_TEXT, b"refused 13 after 7\n"]
         broken = [b"", b"end 0", b"end\n", b"end 01\n", b"write 0\n", b"refused 1 after 0", b"refused 1 after 0\nend 1\n",
                   b"end 1\nrefused 1 after 0\n", b"\nend 1\n", b"end 1\n\n"]
-        self.assertEqual([text for text in whole + broken if arbiter.WHOLE.fullmatch(text)], whole)
+        self.assertEqual([text for text in whole + broken if judging.WHOLE.fullmatch(text)], whole)
 
 
 class Lines(unittest.TestCase):
     """The first line that differs, and what is shown of it."""
 
     def lines(self, right, found):
-        judge, simulated = runs.Run(right, None, None), runs.Run(found, None, None)
-        return list(arbiter.detail_lines("B", judge, simulated))
+        """The place of the difference, and both lines as they are shown."""
+        shown = judging.shown_difference(right, found, None)
+        return ["line %d, byte %d" % (shown["line"], shown["byte"]), *reporttext.shown_lines("B", shown)]
 
     def test_first_difference(self):
         right = memcase(storedcases.named("example-registers").data).encode("ascii")
-        self.assertEqual(arbiter.first_difference(right, right), None)
+        self.assertEqual(judging.first_difference(right, right), None)
         lines = right.splitlines(keepends=True)
         self.assertEqual(len(lines), 18)
         for number, line in enumerate(lines, 1):
             wrong = b"".join(lines[:number - 1]) + b"?" + line + b"".join(lines[number:])
-            self.assertEqual(arbiter.first_difference(right, wrong), (number, line, b"?" + line))
+            self.assertEqual(judging.first_difference(right, wrong), (number, line, b"?" + line))
             shorter = b"".join(lines[:number - 1])
-            self.assertEqual(arbiter.first_difference(right, shorter), (number, line, None))
-            self.assertEqual(arbiter.first_difference(shorter, right), (number, None, line))
+            self.assertEqual(judging.first_difference(right, shorter), (number, line, None))
+            self.assertEqual(judging.first_difference(shorter, right), (number, None, line))
 
-    def test_agreed(self):
-        self.assertEqual(self.lines(WORKED_TEXT, WORKED_TEXT), [])
+    def test_later_line(self):
+        """The line of a classified difference is shown, though another was spelled otherwise before it."""
+        shown = judging.shown_difference(b"write 0\nend 1\n", b"write 00\nend 2\n", 2)
+        self.assertEqual((shown["line"], shown["byte"], shown["right"], shown["found"]), (2, 5, "end 1", "end 2"))
+        shown = judging.shown_difference(b"write 0\nend 1\n", b"write 00\nend 1\n", 2)
+        self.assertEqual((shown["line"], shown["byte"]), (1, 8))
 
     def test_newlines(self):
         self.assertEqual(self.lines(b"end 0\n", b"end 0"), [
-            "  B differs from line 1, byte 6",
-            "    memcase  end 0",
-            "    B        end 0 (no newline)"])
+            "line 1, byte 6",
+            "  memcase  end 0",
+            "  B        end 0 (no newline)"])
         self.assertEqual(self.lines(b"end 0\n", b"end 0\r\n"), [
-            "  B differs from line 1, byte 6",
-            "    memcase  end 0",
-            "    B        end 0\\x0d"])
+            "line 1, byte 6",
+            "  memcase  end 0",
+            "  B        end 0\\x0d"])
         self.assertEqual(self.lines(b"end 0\n", b"\nend 0\n"), [
-            "  B differs from line 1, byte 1",
-            "    memcase  end 0",
-            "    B        (empty line)"])
+            "line 1, byte 1",
+            "  memcase  end 0",
+            "  B        (empty line)"])
         self.assertEqual(self.lines(b"end 0\n", b"end 0\nbye\n"), [
-            "  B differs from line 2, byte 1",
-            "    memcase  (no line)",
-            "    B        bye"])
+            "line 2, byte 1",
+            "  memcase  (no line)",
+            "  B        bye"])
 
     def test_unprintable(self):
-        self.assertEqual(self.lines(b"end 0\n", b"end \\\x1b[2J\xff\n")[2], "    B        end \\\\\\x1b[2J\\xff")
+        self.assertEqual(self.lines(b"end 0\n", b"end \\\x1b[2J\xff\n")[2], "  B        end \\\\\\x1b[2J\\xff")
 
     def test_long_lines(self):
         """The place of the difference is shown, in a line of any length."""
         self.assertEqual(self.lines(b"a" * 1000 + b"01" + b"b" * 1000 + b"\n", b"a" * 1000 + b"11\n"), [
-            "  B differs from line 1, byte 1001",
-            "    memcase  .." + "a" * 24 + "01" + "b" * 46 + "..",
-            "    B        .." + "a" * 24 + "11"])
+            "line 1, byte 1001",
+            "  memcase  .." + "a" * 24 + "01" + "b" * 46 + "..",
+            "  B        .." + "a" * 24 + "11"])
         self.assertEqual(self.lines(b"a" * 47 + b"0\n", b"a" * 47 + b"1" * 1000 + b"\n"), [
-            "  B differs from line 1, byte 48",
-            "    memcase  " + "a" * 47 + "0",
-            "    B        " + "a" * 47 + "1" * 25 + ".."])
+            "line 1, byte 48",
+            "  memcase  " + "a" * 47 + "0",
+            "  B        " + "a" * 47 + "1" * 25 + ".."])
 
 
 if __name__ == "__main__":

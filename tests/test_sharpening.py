@@ -620,7 +620,7 @@ class MisuseTest(Files):
         self.expect_misuse("long.case is no case file: 1 bytes after the last access",
                            self.put("long.case", b"\1\1\0\0\0\0\0"), right)
         self.expect_misuse("b.txt is no text of a case: line 2: unknown word `rite\\x1b`; a line begins with memory, "
-                           "node, write, read, assert or check", self.put("b.txt", "memory n=1 w=1\nrite\x1b\n"), right)
+                           "variable, let, node, write, read, assert or check", self.put("b.txt", "memory n=1 w=1\nrite\x1b\n"), right)
         huge = self.path("huge.txt")
         with open(huge, "wb") as file:
             file.truncate(1 << 30)
@@ -766,24 +766,24 @@ class Arbitration(Files):
                           "read enable=1 address=0\n")
         status, lines = self.arbitrate(SIMULATOR + "right", SIMULATOR + "idle-forgets", "--sharpen", "5")
         self.assertEqual((status, lines), (1, [
-            "case   first    second",
-            "a.txt  agreed   agreed",
-            "  second swings where access 2, enable becomes 0",
-            "    access 3 (read), bit 0, under every assignment: 1 in the case and X in the sharper case",
-            "",
             "1 case",
             "first: agreed 1, differs 0, hung 0, crashed 0",
             "second: agreed 1, differs 0, hung 0, crashed 0",
             "2 sharper cases of 1 case",
             "first: order kept in 2 pairs, swings in 0, no claim in 0, failed in 0",
-            "second: order kept in 1 pair, swings in 1, no claim in 0, failed in 0"]))
+            "second: order kept in 1 pair, swings in 1, no claim in 0, failed in 0",
+            "",
+            "second swings on sharper cases, read: 1 case",
+            "  a.txt, where access 2, enable becomes 0",
+            "    access 3 (read), bit 0, under every assignment: 1 in the case and X in the sharper case"]))
         self.assertEqual(self.arbitrate(SIMULATOR + "right", SIMULATOR + "idle-forgets")[0], 0)
 
     def test_check_condition(self):
         self.put("a.txt", "memory n=1 w=1\nnode a = (8 0 1)\nnode c = (8 1 0)\nwrite enable=1 address=0 data=X\n"
                           "check b=a address=0 data=1\n")
-        status, lines = self.arbitrate(SIMULATOR + "right", SIMULATOR + "unknown-passes", "--sharpen", "2")
+        status, lines = self.arbitrate(SIMULATOR + "right", SIMULATOR + "unknown-passes", "--sharpen", "2", "--table")
         self.assertEqual(status, 1)
+        self.assertIn("second swings on sharper cases, check: 1 case", lines)
         self.assertIn("  second swings where access 1, data bit 0 becomes 0", lines)
         self.assertIn("    access 2 (check), under 8=1: the check condition holds in the case and not in the "
                       "sharper case", lines)
@@ -793,17 +793,19 @@ class Arbitration(Files):
         self.put("a.txt", "memory n=1 w=1\nwrite enable=X address=0 data=1\nread enable=1 address=0\n")
         status, lines = self.arbitrate(SIMULATOR + "ends-with-status", SIMULATOR + "ends-where-idle", "--sharpen", "5")
         self.assertEqual((status, lines), (1, [
-            "case   first    second",
-            "a.txt  crashed  agreed",
-            "  first crashed: it ended with status 1: has expired",
-            "  second failed where access 1, enable becomes 0: the sharper case: crashed: it ended with status 4",
-            "",
             "1 case",
             "first: agreed 0, differs 0, hung 0, crashed 1",
             "second: agreed 1, differs 0, hung 0, crashed 0",
             "2 sharper cases of 1 case",
             "first: order kept in 0 pairs, swings in 0, no claim in 0, failed in 2",
-            "second: order kept in 1 pair, swings in 0, no claim in 0, failed in 1"]))
+            "second: order kept in 1 pair, swings in 0, no claim in 0, failed in 1",
+            "",
+            "second failed on sharper cases: 1 case",
+            "  a.txt, where access 1, enable becomes 0",
+            "    the sharper case: crashed: it ended with status 4",
+            "",
+            "first crashed, it ended with status 1: 1 case",
+            "  a.txt: it ended with status 1: has expired"]))
 
     def test_misuse(self):
         self.put("a.txt", "memory n=1 w=1\n")

@@ -1,369 +1,383 @@
 #!/usr/bin/env python3
-"""Run two simulators and `memcase` on a folder of case files, and say where they part.
+"""Run one or two simulators and `memcase` on a folder of case files, and say where and how they part.
 
-    python3 tools/arbiter.py [options] FOLDER 'COMMAND 1' 'COMMAND 2'
+    python3 tools/arbiter.py [options] FOLDER 'COMMAND' ['COMMAND 2']
+    python3 tools/arbiter.py merge [options] REPORT.json ..
 
-Cases are the files of FOLDER and of the folders in it that are named `.case`, and those
-named `.txt`, which are texts of casetext.py and encoded first.  A command gets a case on
-its standard input and writes the case's text to its standard output.  It is split into
-words as a shell does it and run without a shell, in the folder where the arbiter is run.
+Cases are the files of FOLDER and of the folders in it that are named `.case`, and those named `.txt`, which are texts
+of casetext.py and encoded first.  A command gets a case on its standard input and writes the case's text to its
+standard output.  It is split into words as a shell does it and run without a shell, in the folder where the arbiter
+is run.
 
     agreed    standard output is byte for byte what `memcase` prints, and the status 0
     differs   it is not, with status 0; or it is longer than any text of `memcase`
     hung      the run had not ended, or its output was still open, after S seconds
     crashed   it ended with another status or by a signal, whatever it wrote
+    not run   K runs of the simulator had hung before (--hangs)
 
-Each run has a process group of its own, which is killed when the run is over.  A case is
-judged by `memcase` alone.  There is no verdict, and nothing is counted, where it hangs or
-crashes itself, writes anything to standard error, or writes a text that is no whole one:
-neither `refused R after K` alone nor lines of which the last is `end N`.
+Each run has a process group of its own, which is killed when the run is over; a process that leaves its group is not
+followed.  A case is judged by `memcase` alone.
+There is no verdict, and nothing is counted, where it hangs or crashes itself, writes anything to standard error, or
+writes a text that is no whole one: neither `refused R after K` alone nor lines of which the last is `end N`.
 
-A row is printed for each case on which not all agree, and below it the first line that
-differs; then the cases of each verdict are counted, and those are named in which both
-simulators have the same wrong line first.  The status is 0 where all agreed, 1 where a
-simulator did not, 2 where `memcase` failed or the arbiter cannot run what it is given.
+A difference is one of these kinds, by the first line that does not say the same (differences.py has each rule):
 
-With --sharpen N each simulator is also run on up to N sharper cases of each case, in which
-bits that are X there are 0 or 1 (sharper.py), and its answer must be within its own answer
-to the case itself (sharpening.py); `memcase` is not asked.  Where it is not, the simulator
-swings: the bit that was sharpened, the access, the bit and an assignment are shown below the
-row.  It failed where it hangs, crashes or writes no text of the case, and nothing is claimed
-where it refuses one of the two.  The pairs are counted at the end, and the status is 1 where
-a simulator swings or failed.
+    sharper              the simulator admits less than `memcase`: it has lost an unknown
+    looser               it admits more
+    other                neither
+    spelled otherwise    every line says the same, and bytes differ
+    refused otherwise    one refuses the case and the other does not, or in another way
+    no text              what the simulator wrote is no text of the case
+
+Totals are printed first.  Then come groups, each with its cases: the differences of one simulator, of one kind and in
+one kind of access, with what shows the smallest of them; then runs that crashed or hung in one way; then cases without
+a verdict, those in which both simulators have the same wrong line first, and files that are left out: those named
+`.txt` that are no text of a case, and those that cannot be read.
+
+With --reduce the smallest case is looked for on which the simulator still differs in the way of a group.  With
+--sharpen N each simulator is also run on up to N sharper cases of each case, in which bits that are X there are 0 or 1
+(sharper.py), and its answer must be within its own answer to the case itself (sharpening.py); `memcase` is not asked.
+Where it is not, the simulator swings.  It failed where it hangs, crashes or writes no text of the case, and nothing is
+claimed where it refuses one of the two.
+
+--json writes a report (reports.py has its fields), --html a page for a browser.  With --shard I/N every N-th case is
+run, from the I-th on, so that N machines or jobs share a folder; `merge` joins the reports and prints what one run of
+all cases prints.
+
+Ctrl-C, SIGTERM and SIGHUP kill the simulators, and what was finished is reported.
+
+The status is 0 where all agreed; 1 where a simulator did not, swings, or failed on a sharper case; 2 where `memcase`
+failed, the arbiter cannot do what it is asked to, nothing was there to be run, or a part is missing from what is
+merged; 130, 143 and 129 after Ctrl-C, SIGTERM and SIGHUP.
 """
 
 import argparse
-import io
-import itertools
 import os
 import re
 import sys
-from collections import Counter, namedtuple
-from concurrent.futures import ThreadPoolExecutor
+import time
 
-import casetext
-import orders
-from reference import TEXT_BYTES
-from runs import (CRASHED, HUNG, SHOWN_BYTES, Misuse, cut, escaped, last_line, need_program, need_seconds, run,
-                  words_of)
-from sharper import sharper_pairs
-
-AGREED, DIFFERS = "agreed", "differs"
-VERDICTS = AGREED, DIFFERS, HUNG, CRASHED
-NO_VERDICT = "-"
+import reports
+from casefolder import case_files, read_case, shortened
+from judging import Judging, Program, Reduction
+from reportpage import page
+from progress import Progress, Stopping, results
+from reports import AGREED, DIFFERS
+from reporttext import JUDGE, counted, printable, report_lines
+from runs import AllEnded, Misuse, all_ended, end_all, escaped, need_program, need_seconds, words_of
 
 ROOT = os.path.dirname(os.path.dirname(os.path.abspath(__file__)))
-MEMCASE = os.path.join(ROOT, "target", "bin", "memcase")
-JUDGE = "memcase"
+MEMCASE = "target/bin/memcase"
 
-SHOWN_BEFORE = 24
+SHOWN_MESSAGE = 600
 
-# A case file: its name, which is its path in the folder, and its bytes.
-Case = namedtuple("Case", "name data")
-
-# A whole text: a refusal alone, or lines of which the last says how many entries there are.
-NUMBER = rb"(0|[1-9][0-9]*)"
-WHOLE = re.compile(rb"refused " + NUMBER + rb" after " + NUMBER + rb"\n|((?!refused)[^\n]+\n)*end " + NUMBER + rb"\n")
-
-# The first line in which two texts differ: its number from 1 up, and the line in each
-# with its newline, None where the text has ended before it.
-Difference = namedtuple("Difference", "number right found")
-
-# A case's outcome: the verdict on each simulator, NO_VERDICT where `memcase` failed; what
-# is said below the row; whether both simulators differ in the same way; and each simulator's
-# verdicts on the sharper cases.
-Outcome = namedtuple("Outcome", "name verdicts details alike orders")
-
-
-# Verdicts
-
-def first_difference(right, found):
-    lines = itertools.zip_longest(io.BytesIO(right), io.BytesIO(found))
-    for number, (one, other) in enumerate(lines, 1):
-        if one != other:
-            return Difference(number, one, other)
-    return None
-
-
-def verdict(judge, simulator):
-    if simulator.failure:
-        return simulator.failure
-    return AGREED if simulator.out == judge.out else DIFFERS
-
-
-def same_way(judge, first, second):
-    """Whether both simulators differ, and the first wrong line of both is the same."""
-    if verdict(judge, first) != DIFFERS or verdict(judge, second) != DIFFERS:
-        return False
-    return first_difference(judge.out, first.out) == first_difference(judge.out, second.out)
-
-
-class Arbiter:
-    """The three programs, how long a run may take, and how many sharper cases are made of a case."""
-
-    def __init__(self, memcase, commands, names, seconds, sharpen):
-        self.memcase = memcase
-        self.commands = commands
-        self.names = names
-        self.seconds = seconds
-        self.sharpen = sharpen
-
-    def outcome(self, case):
-        """Run a case: `memcase` first, and the simulators where it gives a text."""
-        judge = run(self.memcase, case.data, self.seconds)
-        fault = judge_fault(judge)
-        if fault:
-            return Outcome(case.name, [NO_VERDICT] * 2, ["  no verdict: memcase " + fault], False, [[], []])
-        runs = [run(command, case.data, self.seconds) for command in self.commands]
-        details = [line for name, simulator in zip(self.names, runs)
-                   for line in detail_lines(name, judge, simulator)]
-        found, more = self.sharpened(case, runs)
-        return Outcome(case.name, [verdict(judge, simulator) for simulator in runs], details + more,
-                       same_way(judge, *runs), found)
-
-    def sharpened(self, case, runs):
-        """Run the sharper cases of a case: each simulator's verdicts, and what is said below the row."""
-        found, lines = [[], []], []
-        for words, pair in sharper_pairs(case.data, self.sharpen):
-            for place, simulator in enumerate(runs):
-                judgement = self.order(place, pair, simulator)
-                found[place].append(judgement.verdict)
-                if not simulator.failure:
-                    lines += order_lines(self.names[place], words, pair, judgement)
-        return found, lines
-
-    def order(self, place, pair, simulator):
-        """A simulator's answer to a sharper case beside its answer to the case, which may have failed."""
-        if simulator.failure:
-            return orders.Judgement(orders.FAILED)
-        sharper = run(self.commands[place], pair.second.case.bytes(), self.seconds)
-        return orders.judge_runs(pair, [simulator, sharper])
-
-
-# The table
-
-def shown(line, start):
-    if line is None:
-        return "(no line)"
-    text = line.removesuffix(b"\n")
-    return (cut(text, start) or "(empty line)") + ("" if line.endswith(b"\n") else " (no newline)")
-
-
-def common_bytes(one, other):
-    """How many bytes two lines have in common at their beginning."""
-    return len(os.path.commonprefix([one or b"", other or b""]))
-
-
-def difference_lines(name, judge, simulator):
-    """A simulator's first difference, the place of it within what is shown of both lines."""
-    number, right, found = first_difference(judge.out, simulator.out)
-    common = common_bytes(right, found)
-    start = 0 if common < SHOWN_BYTES - SHOWN_BEFORE else common - SHOWN_BEFORE
-    width = max(len(name), len(JUDGE))
-    yield "  %s differs from line %d, byte %d" % (name, number, common + 1)
-    yield "    %-*s  %s" % (width, JUDGE, shown(right, start))
-    yield "    %-*s  %s" % (width, name, shown(found, start))
-    if len(simulator.out) > TEXT_BYTES:
-        yield "    %s wrote more than %d bytes and was stopped" % (name, TEXT_BYTES)
-
-
-def detail_lines(name, judge, simulator):
-    """What is said of a simulator below the row of a case."""
-    found = verdict(judge, simulator)
-    if found == DIFFERS:
-        yield from difference_lines(name, judge, simulator)
-    elif found != AGREED:
-        right = ", and its text was right" if simulator.out == judge.out else ""
-        yield "  %s %s: %s%s" % (name, found, simulator.how, right)
-
-
-def order_lines(name, words, pair, judgement):
-    """What is said of a simulator and a sharper case below the row of a case."""
-    if judgement.verdict == orders.SWINGS:
-        yield "  %s swings where %s" % (name, words)
-        yield "    " + pair.shown_swing(judgement.swings[0], pair.first.name, pair.second.name)
-    elif judgement.verdict == orders.FAILED:
-        yield "  %s failed where %s: %s" % (name, words, judgement.why)
-
-
-def judge_fault(judge):
-    """Why there is no verdict, in words after `memcase`; None where it gave a whole text and nothing else."""
-    if judge.failure:
-        return "%s: %s" % (judge.failure, judge.how)
-    if len(judge.out) > TEXT_BYTES:
-        return "wrote more than %d bytes" % TEXT_BYTES
-    if judge.errors:
-        return "wrote to standard error" + last_line(judge.errors)
-    if not WHOLE.fullmatch(judge.out):
-        return "wrote no whole text: its last line is neither `end N` nor a refusal alone"
-    return None
-
-
-class Table:
-    """The rows, printed as they come, under a head where there is any."""
-
-    def __init__(self, names, cases):
-        self.names = names
-        self.widths = [max(len(case.name) for case in cases)] + [max(len(name), len(DIFFERS)) for name in names]
-        self.begun = False
-
-    def row(self, *cells):
-        print("  ".join("%-*s" % (width, cell) for width, cell in zip(self.widths, cells)).rstrip())
-
-    def put(self, outcome):
-        if not self.begun:
-            self.row("case", *self.names)
-            self.begun = True
-        self.row(outcome.name, *outcome.verdicts)
-        for line in outcome.details:
-            print(line)
-        sys.stdout.flush()
-
-    def end(self):
-        if self.begun:
-            print()
-
-
-def counted(number, what):
-    return "%d %s%s" % (number, what, "" if number == 1 else "s")
-
-
-def print_counts(names, outcomes, left_out):
-    print(counted(len(outcomes), "case"))
-    for place, name in enumerate(names):
-        counts = Counter(outcome.verdicts[place] for outcome in outcomes)
-        print("%s: %s" % (name, ", ".join("%s %d" % (word, counts[word]) for word in VERDICTS)))
-    failed = sum(NO_VERDICT in outcome.verdicts for outcome in outcomes)
-    if failed:
-        print("memcase failed: no verdict in " + counted(failed, "case"))
-    alike = [outcome.name for outcome in outcomes if outcome.alike]
-    if alike:
-        print("%s and %s differ from memcase in the same way in %s:" % (*names, counted(len(alike), "case")))
-        for name in alike:
-            print("  " + name)
-    if left_out:
-        print("left out: %s not named .case or .txt" % counted(left_out, "file"))
-
-
-def print_orders(names, outcomes):
-    made = [len(outcome.orders[0]) for outcome in outcomes if outcome.orders[0]]
-    print("%s of %s" % (counted(sum(made), "sharper case"), counted(len(made), "case")))
-    for place, name in enumerate(names):
-        counts = Counter(word for outcome in outcomes for word in outcome.orders[place])
-        print("%s: order kept in %s, swings in %d, no claim in %d, failed in %d" % (
-            name, counted(counts[orders.KEPT], "pair"), counts[orders.SWINGS], counts[orders.NO_CLAIM],
-            counts[orders.FAILED]))
-
-
-def exit_status(outcomes):
-    found = {word for outcome in outcomes for word in outcome.verdicts}
-    if NO_VERDICT in found:
-        return 2
-    orders_found = {word for outcome in outcomes for verdicts in outcome.orders for word in verdicts}
-    return 0 if found == {AGREED} and not orders_found & {orders.SWINGS, orders.FAILED} else 1
+HANGS = 10
+REDUCE_SECONDS = 60
 
 
 # What is given
 
-def stop_walk(error):
-    raise Misuse("cannot read the folder %s: %s" % (error.filename, error.strerror))
-
-
-def paths_in(folder):
-    """The files below a folder, as lists of names from the folder on, sorted."""
-    found = []
-    for place, _, files in os.walk(folder, onerror=stop_walk):
-        inner = os.path.relpath(place, folder)
-        found += [([] if inner == "." else inner.split(os.sep)) + [file] for file in files]
-    return sorted(found)
-
-
-def read_case(path, name):
-    if not os.path.isfile(path):
-        raise Misuse("%s is no file" % name)
-    with open(path, "rb") as file:
-        data = file.read()
-    if path.endswith(".case"):
-        return Case(name, data)
-    try:
-        return Case(name, casetext.encode(data.decode("utf-8")))
-    except UnicodeDecodeError:
-        raise Misuse("%s is no text" % name) from None
-    except casetext.Mistake as mistake:
-        raise Misuse("%s is no text of a case: %s" % (name, mistake)) from None
-
-
-def read_cases(folder):
-    """The cases of a folder, and how many files are none by their names."""
-    if not os.path.isdir(folder):
-        raise Misuse("no folder %s" % folder)
-    paths = paths_in(folder)
-    named = [path for path in paths if path[-1].endswith((".case", ".txt"))]
-    if not named:
-        raise Misuse("no case in %s: no file is named .case or .txt" % folder)
-    cases = [read_case(os.path.join(folder, *path), escaped(os.fsencode("/".join(path)))) for path in named]
-    return cases, len(paths) - len(named)
-
-
 def read_memcase(command):
     if command is None:
-        return need_program([MEMCASE], "; `rt check memcase` builds it")
+        return need_program([os.path.join(ROOT, *MEMCASE.split("/"))], "; `rt check memcase` builds it")
     return words_of(command)
 
 
-def need_names(names):
-    if len({*names, JUDGE}) < 3:
-        raise Misuse("the simulators need two names, neither of them %s" % JUDGE)
+def read_names(names, many):
+    """The names of so many simulators."""
+    if many > 2:
+        raise Misuse("one simulator or two, each command as one word in quotation marks, and not %d" % many)
+    names = names or ["first", "second"][:many]
+    if len({*names, JUDGE}) <= many:
+        raise Misuse("the simulators need two names, neither of them %s" % JUDGE if many == 2 else
+                     "the simulator needs a name other than %s" % JUDGE)
     if not all(name.isprintable() and name.strip() for name in names):
         raise Misuse("a name must be printable")
+    return names
 
 
-def arbitrate(options):
-    """Run all cases and print what came out; the status to end with."""
+def read_shard(text):
+    """The numbers of `I/N`."""
+    found = re.fullmatch(r"([0-9]{1,9})/([0-9]{1,9})", text)
+    shard = [int(number) for number in found.groups()] if found else [0, 0]
+    if not 1 <= shard[0] <= shard[1]:
+        raise Misuse("--shard is I/N with I from 1 to N, as 2/8, and not %s" % shortened(text))
+    return shard
+
+
+def need_files(options):
+    """See that the files of a report can be written."""
+    if options.html == "-":
+        raise Misuse("--html needs the name of a file")
+    for path in (options.json, options.html):
+        if path not in (None, "-"):
+            reports.need_place(path)
+
+
+def need_options(options):
+    """See that what is given can be done, before anything is run."""
     need_seconds(options.seconds)
-    if options.jobs < 1:
-        raise Misuse("--jobs must be 1 or more")
-    if options.sharpen < 0:
-        raise Misuse("--sharpen must be 0 or more")
-    need_names(options.names)
-    cases, left_out = read_cases(options.folder)
-    memcase = read_memcase(options.memcase)
-    commands = [words_of(command) for command in options.commands]
-
-    arbiter = Arbiter(memcase, commands, options.names, options.seconds, options.sharpen)
-    table = Table(options.names, cases)
-    outcomes = []
-    with ThreadPoolExecutor(options.jobs) as pool:
-        for outcome in pool.map(arbiter.outcome, cases):
-            outcomes.append(outcome)
-            if options.all or outcome.details:
-                table.put(outcome)
-    table.end()
-    print_counts(options.names, outcomes, left_out)
-    if options.sharpen:
-        print_orders(options.names, outcomes)
-    return exit_status(outcomes)
+    for name, least in (("jobs", 1), ("sharpen", 0), ("hangs", 0)):
+        if getattr(options, name) < least:
+            raise Misuse("--%s must be %d or more" % (name, least))
+    if not 0 < options.reduce_seconds < float("inf"):
+        raise Misuse("--reduce-seconds must be above 0")
+    need_files(options)
+    if options.reduced is not None and os.path.exists(options.reduced) and not os.path.isdir(options.reduced):
+        raise Misuse("%s is no folder, and --reduced writes to one" % options.reduced)
 
 
-def main():
-    parser = argparse.ArgumentParser(description=__doc__, formatter_class=argparse.RawDescriptionHelpFormatter)
+# An arbitration
+
+def not_agreed(record):
+    return any(run["verdict"] != AGREED for run in record["runs"])
+
+
+def run_cases(judging, files, options, report):
+    """Run the cases, and put what comes of them into the report; the error that ended it early, or None."""
+    progress = Progress(options.progress, len(files))
+    error = None
+    for found in results(lambda file: judging.record(file.name, lambda: read_case(file.path)), files,
+                         min(options.jobs, len(files))):
+        if found is None:
+            progress.tick()
+            continue
+        file, record = found
+        if isinstance(record, Misuse):
+            report["left_out"].append({"name": file.name, "why": str(record)})
+            progress.step(False)
+        elif isinstance(record, dict):
+            report["cases"].append(record)
+            progress.step(not_agreed(record))
+        elif not isinstance(record, AllEnded) and error is None:
+            error = record
+            end_all()
+    progress.end()
+    report["cases"].sort(key=lambda case: reports.case_order(case["name"]))
+    report["left_out"].sort(key=lambda file: reports.case_order(file["name"]))
+    return error
+
+
+def reduce_groups(judging, files, options, report):
+    """Look for the smallest case of each group of differences, and put it into the report."""
+    paths = {file.name: file.path for file in files}
+    wanted = [group for group in reports.groups(report)
+              if group.verdict == DIFFERS and not judging.simulators[group.simulator].given_up()]
+    progress = Progress(options.progress, len(wanted))
+    progress.say("0 of %s reduced" % counted(len(wanted), "group"))
+
+    def reduced(group):
+        simulator = judging.simulators[group.simulator]
+        name = report["cases"][group.cases[0]]["name"]
+        search = Reduction(judging.memcase, simulator, group.kind, group.access, options.reduce_seconds)
+        return search.record(group.simulator, name, read_case(paths[name]))
+
+    done = 0
+    for _, found in filter(None, results(reduced, wanted, min(options.jobs, len(wanted)))):
+        done += 1
+        progress.say("%d of %s reduced" % (done, counted(len(wanted), "group")))
+        if isinstance(found, dict):
+            report["reduced"].append(found)
+        elif isinstance(found, BaseException) and not isinstance(found, (AllEnded, Misuse)):
+            end_all()
+            raise found
+    progress.end()
+    report["reduced"].sort(key=lambda item: (item["simulator"], item["kind"], item["access"]))
+
+
+def write_reduced(folder, report):
+    """Write the smallest cases to a folder, as texts, and damaged ones as case files."""
+    os.makedirs(folder, exist_ok=True)
+    for item in report["reduced"]:
+        words = report["names"][item["simulator"]], item["kind"], item["access"]
+        stem = re.sub(r"[^A-Za-z0-9]+", "-", "-".join(words)).strip("-")
+        if item["text"] is None:
+            with open(os.path.join(folder, stem + ".case"), "wb") as file:
+                file.write(bytes.fromhex(item["hex"]))
+        else:
+            with open(os.path.join(folder, stem + ".txt"), "w", encoding="utf-8") as file:
+                file.write(item["text"])
+
+
+def new_report(options, names, shard, found, planned, unnamed):
+    part = {"folder": escaped(os.fsencode(options.folder)), "shard": shard, "found": found, "planned": planned,
+            "done": 0, "ended": None, "began": time.strftime("%Y-%m-%dT%H:%M:%SZ", time.gmtime()), "took": 0}
+    return {"format": reports.FORMAT, "names": names, "commands": options.commands,
+            "memcase": options.memcase or MEMCASE, "seconds": options.seconds, "sharpen": options.sharpen,
+            "hangs": options.hangs, "parts": [part], "unnamed": unnamed, "left_out": [], "cases": [], "reduced": []}
+
+
+def arbitrate(options, stopping):
+    """Run all cases and tell what came out; the status to end with."""
+    need_options(options)
+    names = read_names(options.names, len(options.commands))
+    shard = read_shard(options.shard)
+    memcase = Program(JUDGE, read_memcase(options.memcase), options.seconds, options.hangs)
+    simulators = [Program(name, words_of(command), options.seconds, options.hangs)
+                  for name, command in zip(names, options.commands)]
+    every, unnamed = case_files(options.folder)
+    files = every[shard[0] - 1::shard[1]]
+    report = new_report(options, names, shard, len(every), len(files), unnamed)
+    judging = Judging(memcase, simulators, options.sharpen)
+
+    begun = time.monotonic()
+    error = run_cases(judging, files, options, report)
+    if error is not None and not report["cases"]:
+        raise error
+    if (options.reduce or options.reduced) and not all_ended():
+        reduce_groups(judging, files, options, report)
+    part = report["parts"][0]
+    part["took"] = round(time.monotonic() - begun, 3)
+    part["done"] = len(report["cases"]) + len(report["left_out"])
+    if all_ended() and part["done"] < part["planned"]:
+        part["ended"] = stopping.signal.name if stopping.signal else shortened(str(error))
+    tell(report, options, False)
+    if options.reduced:
+        write_reduced(options.reduced, report)
+    if error is not None:
+        raise error
+    if not report["cases"] and part["ended"] is None and shard[1] == 1:
+        raise Misuse("nothing was run: no file of %s is a case" % options.folder)
+    return reports.status(report)
+
+
+def merge(options):
+    """Join reports and tell what is in them; the status to end with."""
+    need_files(options)
+    report = reports.joined(options.reports, [reports.read_file(path) for path in options.reports])
+    tell(report, options, True)
+    return reports.status(report, True)
+
+
+def tell(report, options, merged):
+    """Write the files that are asked for, and print the report, also where a file cannot be written."""
+    faults = []
+    for path, text_of in ((options.json, reports.as_text), (options.html, lambda known: page(known, merged))):
+        if path not in (None, "-"):
+            try:
+                reports.write_file(path, text_of(report))
+            except OSError as error:
+                faults.append(error)
+    if options.json == "-":
+        put(reports.as_text(report).splitlines())
+    else:
+        put(report_lines(report, options.all, options.table, merged))
+    if faults:
+        raise faults[0]
+
+
+def put(lines):
+    """Print lines; where nobody reads them any more, as behind a pipe to `head`, that is no fault."""
+    try:
+        for line in lines:
+            print(line)
+        sys.stdout.flush()
+    except OSError as error:
+        os.dup2(os.open(os.devnull, os.O_WRONLY), 1)
+        if not isinstance(error, BrokenPipeError):
+            raise
+
+
+# The commands
+
+def add_shown(parser):
+    """The options of what is told."""
+    parser.add_argument("--all", action="store_true", help="name all cases of a group, and a row for every case")
+    parser.add_argument("--table", action="store_true", help="a row for every case on which not all agreed")
+    parser.add_argument("--json", metavar="FILE", help="write a report; - is standard output, with nothing else")
+    parser.add_argument("--html", metavar="FILE", help="write a page for a browser")
+
+
+class Parser(argparse.ArgumentParser):
+    """A parser that raises Misuse where words are no options."""
+
+    def error(self, message):
+        raise Misuse(message + "; --help has the usage")
+
+
+def run_parser(names):
+    """The parser of a run, `--names` followed by so many."""
+    parser = Parser(prog="arbiter.py", description=__doc__, formatter_class=argparse.RawDescriptionHelpFormatter)
     parser.add_argument("folder", metavar="FOLDER")
-    parser.add_argument("commands", nargs=2, metavar="COMMAND")
-    parser.add_argument("--memcase", metavar="COMMAND", help="the judge (target/bin/memcase)")
+    parser.add_argument("commands", nargs="+", metavar="COMMAND", help="one or two, each as one word")
+    parser.add_argument("--memcase", metavar="COMMAND", help="the judge (%s)" % MEMCASE)
     parser.add_argument("--seconds", type=float, default=10, metavar="S", help="for one run (10)")
     parser.add_argument("--jobs", type=int, default=os.cpu_count() or 1, metavar="N",
                         help="cases run at a time (as many as there are processors)")
-    parser.add_argument("--names", nargs=2, default=["first", "second"], metavar=("A", "B"),
-                        help="what the simulators are called (first second)")
-    parser.add_argument("--all", action="store_true", help="a row for every case")
+    parser.add_argument("--names", nargs=names, metavar="NAME", help="what the simulators are called (first second)")
+    parser.add_argument("--hangs", type=int, default=HANGS, metavar="K",
+                        help="a simulator is no longer run after K hung runs, 0 for never (%d)" % HANGS)
     parser.add_argument("--sharpen", type=int, default=0, metavar="N",
                         help="sharper cases of each case, at most so many (0)")
-    options = parser.parse_args()
+    parser.add_argument("--reduce", action="store_true", help="look for the smallest case of each group of differences")
+    parser.add_argument("--reduce-seconds", type=float, default=REDUCE_SECONDS, metavar="S",
+                        help="for one group (%d)" % REDUCE_SECONDS)
+    parser.add_argument("--reduced", metavar="FOLDER", help="--reduce, and write the smallest cases to a folder")
+    parser.add_argument("--shard", default="1/1", metavar="I/N", help="every N-th case, from the I-th on (1/1)")
+    parser.add_argument("--progress", action=argparse.BooleanOptionalAction,
+                        help="say on standard error how far it is (on a terminal)")
+    add_shown(parser)
+    return parser
+
+
+def run_options(words):
+    """The options of a run.  Names may stand before the folder, so that only the number of commands tells how many
+    there are."""
+    for names in (2, 1):
+        try:
+            options = run_parser(names).parse_args(words)
+        except Misuse as mistake:
+            wrong = mistake
+        else:
+            if options.names is None or len(options.names) == len(options.commands):
+                return options
+            wrong = Misuse("--names takes as many names as there are simulators")
+    raise wrong
+
+
+def merge_options(words):
+    parser = Parser(prog="arbiter.py merge",
+                    description="Join reports of one arbitration, and print what one run of all cases prints.")
+    parser.add_argument("reports", nargs="+", metavar="REPORT.json")
+    add_shown(parser)
+    return parser.parse_args(words)
+
+
+def complain(message):
+    """One line on standard error; what others wrote in it may be long and have any letters."""
+    line = printable(message)
+    shown = line[:SHOWN_MESSAGE] + (".." if len(line) > SHOWN_MESSAGE else "")
     try:
-        sys.exit(arbitrate(options))
+        print("arbiter: " + shown, file=sys.stderr, flush=True)
+    except OSError:
+        pass
+
+
+def work(words, stopping):
+    """Do what the words ask for; the status to end with."""
+    if words[:1] == ["merge"]:
+        return merge(merge_options(words[1:]))
+    return arbitrate(run_options(words), stopping)
+
+
+def open_outputs():
+    """See that there is a standard output and a standard error, and that both take any letters."""
+    sys.stdout = sys.stdout or open(os.devnull, "w", encoding="utf-8")
+    sys.stderr = sys.stderr or open(os.devnull, "w", encoding="utf-8")
+    sys.stdout.reconfigure(errors="backslashreplace")
+
+
+def main():
+    stopping = Stopping()
+    open_outputs()
+    try:
+        status = work(sys.argv[1:], stopping)
     except (Misuse, OSError) as error:
-        print("arbiter: %s" % error, file=sys.stderr)
-        sys.exit(2)
+        complain(str(error))
+        status = 2
+    except AllEnded:
+        status = 2
+    sys.exit(128 + stopping.signal if stopping.signal else status)
 
 
 if __name__ == "__main__":

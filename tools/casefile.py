@@ -157,24 +157,52 @@ class Bytes:
         return [(self.number(2, what), self.number(2, what)) for _ in range(count)]
 
 
-def parse(data):
-    """The contents of a well-formed case file; NotACaseFile otherwise."""
-    source = Bytes(data)
-    case = CaseFile(source.number(1, "n"), source.number(1, "w"))
+def parse_header(source, case):
+    """How many accesses there are; what stands before them is put into the case, the nodes where all can be read."""
+    case.n, case.w = source.number(1, "n"), source.number(1, "w")
+    nodes = []
     for number in range(source.number(2, "the count of nodes")):
         what = "node %d" % (number + 2)
-        case.add_node(source.number(1, what), source.number(2, what), source.number(2, what))
-    for number in range(source.number(2, "the count of accesses")):
-        what = "access %d" % number
-        kind = source.number(1, what)
-        if kind not in (WRITE, READ, ASSERT, CHECK):
-            raise NotACaseFile("byte %d: access %d has the unknown kind %d"
-                               % (source.at - 1, number, kind))
-        port = source.number(1, what) if kind == READ else 0
-        control = [source.number(2, what) for _ in range(2 if kind in (WRITE, READ) else 1)]
-        address = source.pairs(case.n, what)
-        data_pairs = source.pairs(0 if kind == READ else case.w, what)
-        case.accesses.append(Access(kind, control, address, data_pairs, port))
-    if source.at != len(data):
-        raise NotACaseFile("%d bytes after the last access" % (len(data) - source.at))
+        nodes.append((source.number(1, what), source.number(2, what), source.number(2, what)))
+    count = source.number(2, "the count of accesses")
+    for node in nodes:
+        case.add_node(*node)
+    return count
+
+
+def parse_access(source, case):
+    """The next access of a case, added to it."""
+    number = len(case.accesses)
+    what = "access %d" % number
+    kind = source.number(1, what)
+    if kind not in (WRITE, READ, ASSERT, CHECK):
+        raise NotACaseFile("byte %d: access %d has the unknown kind %d"
+                           % (source.at - 1, number, kind))
+    port = source.number(1, what) if kind == READ else 0
+    control = [source.number(2, what) for _ in range(2 if kind in (WRITE, READ) else 1)]
+    address = source.pairs(case.n, what)
+    data_pairs = source.pairs(0 if kind == READ else case.w, what)
+    case.accesses.append(Access(kind, control, address, data_pairs, port))
+
+
+def parse(data):
+    """The contents of a well-formed case file; NotACaseFile otherwise."""
+    case, wrong = parse_start(data)
+    if wrong:
+        raise wrong
     return case
+
+
+def parse_start(data):
+    """The contents of a case file as far as whole accesses can be read, and the NotACaseFile that says why there are
+    no more, or None."""
+    source = Bytes(data)
+    case = CaseFile()
+    try:
+        for _ in range(parse_header(source, case)):
+            parse_access(source, case)
+        if source.at != len(data):
+            raise NotACaseFile("%d bytes after the last access" % (len(data) - source.at))
+    except NotACaseFile as wrong:
+        return case, wrong
+    return case, None

@@ -1,7 +1,8 @@
 """Runs of a simulator: a command is given a case on its standard input, and what it wrote is kept.
 
 A command is split into words as a shell does it and run without a shell.  Each run has a process group of
-its own, which is killed when the run is over.
+its own, which is killed when the run is over.  `end_all`, which a signal handler may call, kills the groups
+of all runs at once, of whatever thread, and lets none begin any more.
 """
 
 import math
@@ -12,6 +13,7 @@ import shutil
 import signal
 import subprocess
 import tempfile
+import threading
 import time
 from collections import namedtuple
 
@@ -22,15 +24,61 @@ HUNG, CRASHED = "hung", "crashed"
 READ_BYTES = 65536
 KEPT_ERROR_BYTES = 4096
 POLL_SECONDS = 0.005
+# So long may pass until a run that waits sees that all were ended.
+LOOK_SECONDS = 0.25
 SHOWN_BYTES = 72
 
 # What a run wrote, at most one byte more than the longest text; HUNG, CRASHED or None;
-# how it failed, in words; and the end of what it wrote to standard error.
-Run = namedtuple("Run", "out failure how errors", defaults=(b"",))
+# how it failed, in words; the end of what it wrote to standard error; and how long it took.
+Run = namedtuple("Run", "out failure how errors seconds", defaults=(b"", 0.0))
 
 
 class Misuse(Exception):
     """A tool cannot do what it is asked to, with the reason."""
+
+
+class AllEnded(Exception):
+    """Runs were ended from outside: nothing is known of this one."""
+
+
+class Register:
+    """The process groups of the runs that are under way, and whether all were ended.
+
+    A group is taken out before its process is collected, so that no number in it is that of another group.
+    """
+
+    def __init__(self):
+        self.lock = threading.RLock()
+        self.groups = set()
+        self.ended = False
+
+    def enter(self, group):
+        """Enter the group of a run that has begun; whether it may go on."""
+        with self.lock:
+            self.groups.add(group)
+            return not self.ended
+
+    def leave(self, group):
+        with self.lock:
+            self.groups.discard(group)
+
+    def end(self):
+        with self.lock:
+            self.ended = True
+            for group in self.groups:
+                os.killpg(group, signal.SIGKILL)
+
+
+register = Register()
+
+
+def end_all():
+    """Kill all runs that are under way, and let none begin: `run` raises AllEnded from now on."""
+    register.end()
+
+
+def all_ended():
+    return register.ended
 
 
 def has_ended(process):
@@ -47,9 +95,9 @@ def follow(process, deadline):
         selector.register(process.stderr, selectors.EVENT_READ)
         while len(out) <= TEXT_BYTES and not (closed and has_ended(process)):
             left = deadline - time.monotonic()
-            if left <= 0:
+            if left <= 0 or all_ended():
                 break
-            for key, _ in selector.select(min(left, POLL_SECONDS) if closed else left):
+            for key, _ in selector.select(min(left, POLL_SECONDS if closed else LOOK_SECONDS)):
                 data = os.read(key.fd, READ_BYTES)
                 if not data:
                     selector.unregister(key.fileobj)
@@ -71,8 +119,11 @@ def rest_of(stream):
 
 
 def run(command, data, seconds):
-    """One run of a command with these bytes on its standard input."""
-    deadline = time.monotonic() + seconds
+    """One run of a command with these bytes on its standard input; AllEnded where all runs were ended."""
+    if all_ended():
+        raise AllEnded()
+    begun = time.monotonic()
+    deadline = begun + seconds
     with tempfile.TemporaryFile() as case:
         case.write(data)
         case.seek(0)
@@ -80,20 +131,25 @@ def run(command, data, seconds):
                                    start_new_session=True)
     with process.stdout, process.stderr:
         try:
-            out, closed, errors = follow(process, deadline)
-            ended = has_ended(process)
+            if register.enter(process.pid):
+                out, closed, errors = follow(process, deadline)
+                ended = has_ended(process)
         finally:
+            register.leave(process.pid)
             os.killpg(process.pid, signal.SIGKILL)
             process.wait()
+        if all_ended():
+            raise AllEnded()
         errors += rest_of(process.stderr)
+    took = time.monotonic() - begun
     if len(out) > TEXT_BYTES:
-        return Run(out, None, None, errors)
+        return Run(out, None, None, errors, took)
     if ended and process.returncode != 0:
-        return Run(out, CRASHED, ending(process.returncode) + last_line(errors), errors)
+        return Run(out, CRASHED, ending(process.returncode) + last_line(errors), errors, took)
     if ended and closed:
-        return Run(out, None, None, errors)
+        return Run(out, None, None, errors, took)
     what = "its output was still open" if ended else "it had not ended"
-    return Run(out, HUNG, "%s after %g seconds" % (what, seconds), errors)
+    return Run(out, HUNG, "%s after %g seconds" % (what, seconds), errors, took)
 
 
 def ending(status):

@@ -7,7 +7,8 @@ FILE is a text of casetext.py, named `.txt`, or a case file, named `.case`.  Up 
 none over a file that is there.  In the first every plain X of an enable, an address or written or asserted data is
 replaced by 0 or 1, as the seed says; in each of the others one is, and these are spread evenly over the case.  b and
 the data of checks stay, and so does a bit that is X under some assignments alone.  A line that is changed has the
-node numbers in place of names; all others are as they were.
+node numbers in place of names; all others are as they were.  A text with `variable` or `let` is written anew, as
+`casetext.py decode` prints it: its nodes have numbers only in the file.
 
 `python3 tools/sharpening.py` judges what simulators answer to such cases, as `arbiter.py --sharpen N` does for all
 cases of a folder.  The status is 0, or 2 where nothing can be made.
@@ -112,8 +113,8 @@ def sharper_text(text, lines, sharper):
 
 
 def text_of(source):
-    """The text of a case, and the line of each access."""
-    if source.text:
+    """The text of a case, one that says its nodes, and the line of each access."""
+    if source.text and casetext.says_nodes(source.text):
         return source.text, source.lines
     text = casetext.decode(source.case.bytes())
     return text, casetext.read_text(text)[1]

@@ -69,6 +69,18 @@ def leaves_child():
     write("%d\n" % child)
 
 
+def hangs_where_idle():
+    """Hangs where a write is idle, and so does a child; their numbers are put into the file that PIDS names."""
+    text = right_text()
+    if "idle" not in text:
+        write(text)
+        return
+    os.fork()
+    with open(os.environ["PIDS"], "a", encoding="ascii") as file:
+        file.write("%d\n" % os.getpid())
+    time.sleep(1000)
+
+
 def ends_by_signal():
     os.kill(os.getpid(), signal.SIGTERM)
 
@@ -139,8 +151,8 @@ WRONG = {
 # Those by which an answer swings when an X becomes known, each by the name of its wrong function.
 WRONG.update({wrong[2].__name__.replace("_", "-"): wrong for wrong in wrongorders.SWINGING})
 
-WAYS = [right, loses_unknown, hangs, hangs_after_text, hangs_with_output_closed, leaves_child, ends_by_signal,
-        ends_with_status, ends_with_status_after_text, ends_where_idle, writes_without_end, complains,
+WAYS = [right, loses_unknown, hangs, hangs_after_text, hangs_with_output_closed, hangs_where_idle, leaves_child,
+        ends_by_signal, ends_with_status, ends_with_status_after_text, ends_where_idle, writes_without_end, complains,
         complains_without_end, breaks_off, refuses_after_text, reads_nothing, writes_nothing]
 
 
