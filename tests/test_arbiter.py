@@ -103,7 +103,7 @@ class Verdicts(Folders):
             "first: agreed 4, differs 0, hung 0, crashed 0",
             "second: agreed 4, differs 0, hung 0, crashed 0",
             "",
-            "left out: 1 file not named .case or .txt",
+            "left out: 1 file not named .case, .txt or .csv",
         ], simulator("right"), simulator("complains"))
 
     def test_all_rows(self):
@@ -362,7 +362,7 @@ class StrayTexts(Folders):
             "left out: c.case is no file",
             "left out: d.txt is no file",
             "left out: huge.txt is longer than 16777216 bytes: no case and no text of one is",
-            "left out: 1 file not named .case or .txt"]
+            "left out: 1 file not named .case, .txt or .csv"]
         status, out = self.arbitrate(simulator("right"))
         self.assertEqual((status, self.errors), (0, ""))
         lines = out.splitlines()
@@ -388,7 +388,7 @@ def open_text(name):
 class MisuseTest(Folders):
     def test_folder(self):
         right = simulator("right")
-        self.expect_misuse("no case in %s: no file is named .case or .txt" % self.folder, right, right)
+        self.expect_misuse("no case in %s: no file is named .case, .txt or .csv" % self.folder, right, right)
         self.folder += "/none"
         self.expect_misuse("no folder " + self.folder, right, right)
 

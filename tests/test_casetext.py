@@ -743,11 +743,11 @@ class Examples(unittest.TestCase):
             self.assertEqual(printed, list(map(int, holds)), (we, cancel, rd))
 
     def test_trace(self):
-        """traces/regfile.csv: we and rd are the variables 8 and 9 to 13."""
-        text = traces.text_of(read("traces/regfile.csv").encode("utf-8"))
+        """examples/regfile.csv: we and rd are the variables 8 and 9 to 13."""
+        text = traces.text_of(read("examples/regfile.csv").encode("utf-8"))
         case, _ = casetext.read_text(text)
         printed = [line for line in memcase(case.bytes()).splitlines() if line.startswith("read")]
-        rows = list(csv.DictReader(line for line in read("traces/regfile.csv").splitlines() if line[0] != "#"))
+        rows = list(csv.DictReader(line for line in read("examples/regfile.csv").splitlines() if line[0] != "#"))
         self.assertEqual(len(printed), sum(row["raddr0:dec"] != "" for row in rows) * 2)
         for we, rd in itertools.product((0, 1), range(32)):
             assignment = we << 8 | sum((rd >> bit & 1) << 13 - bit for bit in range(5))
@@ -841,7 +841,7 @@ class Documents(unittest.TestCase):
 
     def test_traces(self):
         """Both tables, and what comes of the first."""
-        table = read("traces/regfile.csv")
+        table = read("examples/regfile.csv")
         self.assertIn(shown(table[table.index("# memory"):]), self.SECTION)
         begun = "\n".join(line.rstrip() for line in text_of(table).splitlines()[:9]) + "\n"
         self.assertIn(shown(begun), self.SECTION)

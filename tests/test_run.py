@@ -33,6 +33,7 @@ import running
 import secondmodel
 import shownanswers
 import storedcases
+import traces
 import witnesses
 from calls import ASSERT, CHECK, READ, WRITE
 from casefile import ONE, X, ZERO, CaseFile
@@ -576,6 +577,26 @@ class Refusals(Files):
                 self.assertIn("refused by row %d: " % case.row, out)
                 heads = [line for line in out.splitlines() if line.startswith("access ")]
                 self.assertEqual(len(heads), case.count + (case.row in (5, 6, 7, 8, 9, 13, 14)))
+
+
+class Traces(Files):
+    """A trace is run as its text is, and shown by its own lines."""
+
+    def test_example(self):
+        with open(os.path.join(ROOT, "examples", "regfile.csv"), "rb") as file:
+            text = traces.text_of(file.read())
+        as_text, as_trace = show(self.put("x.txt", text)), show(os.path.join(ROOT, "examples", "regfile.csv"))
+        self.assertEqual((as_text[0], as_text[2]), (as_trace[0], as_trace[2]))
+        place = re.compile(r"^line [0-9]+ +", re.MULTILINE)
+        self.assertEqual(place.sub("", as_text[1]), place.sub("", as_trace[1]))
+        lines = re.findall(r"# line ([0-9]+)", text)
+        self.assertEqual(re.findall(r"^line ([0-9]+)", as_trace[1], re.MULTILINE), lines)
+
+    def test_mistakes(self):
+        table = "# memory n=1 w=1\nkind,port,enable,address,data,b\nwrite,,1,2,1,\n"
+        self.expect_misuse("x.csv is no text of a case: line 3, column address: `2` is no word of bits: a decimal word "
+                           "is written 0d2", self.put("x.csv", table))
+        self.expect_misuse("x.csv is no text; a case file is named .case", self.put("x.csv", b"\xff"))
 
 
 class Pictures(Files):

@@ -4,10 +4,10 @@
     python3 tools/arbiter.py [options] FOLDER 'COMMAND' ['COMMAND 2']
     python3 tools/arbiter.py merge [options] REPORT.json ..
 
-Cases are the files of FOLDER and of the folders in it that are named `.case`, and those named `.txt`, which are texts
-of casetext.py and encoded first.  A command gets a case on its standard input and writes the case's text to its
-standard output.  It is split into words as a shell does it and run without a shell, in the folder where the arbiter
-is run.
+Cases are the files of FOLDER and of the folders in it that are named `.case`, and those named `.txt` or `.csv`, which
+are texts and traces of casetext.py and encoded first.  A command gets a case on its standard input and writes the
+case's text to its standard output.  It is split into words as a shell does it and run without a shell, in the folder
+where the arbiter is run.
 
     agreed    standard output is byte for byte what `memcase` prints, and the status 0
     differs   it is not, with status 0; or it is longer than any text of `memcase`

@@ -4,11 +4,15 @@ import os
 from collections import namedtuple
 
 import casetext
+import traces
 from runs import AllEnded, Misuse, all_ended, escaped
 
 # The largest case file has 7,000,000 bytes.
 INPUT_BYTES = 1 << 24
 SHOWN_MISTAKE = 240
+
+# Case files, texts and traces.
+NAMES = ".case", ".txt", ".csv"
 
 # A file that is named as a case: its name, which is its path in the folder, and where it is.
 File = namedtuple("File", "name path")
@@ -34,9 +38,9 @@ def case_files(folder):
     if not os.path.isdir(folder):
         raise Misuse("no folder %s" % folder)
     paths = paths_in(folder)
-    named = [path for path in paths if path[-1].endswith((".case", ".txt"))]
+    named = [path for path in paths if path[-1].endswith(NAMES)]
     if not named:
-        raise Misuse("no case in %s: no file is named .case or .txt" % folder)
+        raise Misuse("no case in %s: no file is named .case, .txt or .csv" % folder)
     files = [File(escaped(os.fsencode("/".join(path))), os.path.join(folder, *path)) for path in named]
     return files, len(paths) - len(named)
 
@@ -61,7 +65,7 @@ def read_case(path):
     if path.endswith(".case"):
         return data
     try:
-        return casetext.encode(data.decode("utf-8"))
+        return casetext.encode(traces.text_of(data) if path.endswith(".csv") else data.decode("utf-8"))
     except UnicodeDecodeError:
         raise Misuse("is no text; a case file is named .case") from None
     except casetext.Mistake as mistake:

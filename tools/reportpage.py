@@ -208,7 +208,7 @@ def left_out_part(report):
     files = [element("span", text(file["name"]), class_="case") + " " + text(file["why"])
              for file in report["left_out"]]
     if report["unnamed"]:
-        files.append(text("%s not named .case or .txt" % counted(report["unnamed"], "file")))
+        files.append(text("%s not named .case, .txt or .csv" % counted(report["unnamed"], "file")))
     return list_part("Left out", "Files of the folder that are no cases.", files)
 
 

@@ -178,7 +178,7 @@ def alike_lines(report, every):
 def left_out_lines(report):
     yield from ("left out: %s %s" % (file["name"], file["why"]) for file in report["left_out"])
     if report["unnamed"]:
-        yield "left out: %s not named .case or .txt" % counted(report["unnamed"], "file")
+        yield "left out: %s not named .case, .txt or .csv" % counted(report["unnamed"], "file")
 
 
 # The table

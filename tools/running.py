@@ -1,9 +1,9 @@
-"""Runs a text, or a case file, and shows what came of each access in names.
+"""Runs a text, a trace or a case file, and shows what came of each access in names.
 
     python3 tools/casetext.py run FILE [options]
 
-FILE is a text (`.txt`), a case file (`.case`) or `-`, standard input; one of another name is a case file where it
-has a zero byte.  Each access is shown with its line, and below it what came of it and how many nodes and entries it
+FILE is a text (`.txt`), a trace (`.csv`), a case file (`.case`) or `-`, standard input; one of another name is a case
+file where it has a zero byte.  Each access is shown with its line, and below it what came of it and how many nodes and entries it
 added:
 
     entered at place P     a write, or an assert, that became entry P of the update list
@@ -42,6 +42,7 @@ import sys
 from collections import namedtuple
 
 import casetext
+import traces
 import dot
 import model
 import orders
@@ -90,7 +91,7 @@ def load(name):
         return load_case(name, data)
     shown = STDIN if name == "-" else name
     try:
-        text = data.decode("utf-8")
+        text, places = traces.read_trace(data) if name.endswith(".csv") else (data.decode("utf-8"), None)
         source = casetext.read_source(text)
     except UnicodeDecodeError:
         raise Misuse("%s is no text; a case file is named .case" % shown) from None
@@ -98,7 +99,7 @@ def load(name):
         raise Misuse("%s is no text of a case: %s" % (shown, mistake)) from None
     lines = text.splitlines()
     texts = [" ".join(lines[number - 1].split("#", 1)[0].split()) for number in source.lines]
-    return Loaded(shown, source.case.bytes(), source.case, "line", source.lines, texts, source.variables,
+    return Loaded(shown, source.case.bytes(), source.case, "line", places or source.lines, texts, source.variables,
                   source.conditions)
 
 

@@ -420,11 +420,17 @@ def shown_remark(remark):
     return "".join(letter if letter.isprintable() else "?" for letter in remark)
 
 
+def read_trace(data, n=None, w=None):
+    """The text of a trace, given as bytes, and the trace's line of each access."""
+    table = Table(data.decode("utf-8"))
+    writer = Writer()
+    writer.table(table, n, w)
+    return "\n".join(writer.lines) + "\n", [access.line for access in table.accesses]
+
+
 def text_of(data, n=None, w=None):
     """The text of a trace, given as bytes."""
-    writer = Writer()
-    writer.table(Table(data.decode("utf-8")), n, w)
-    return "\n".join(writer.lines) + "\n"
+    return read_trace(data, n, w)[0]
 
 
 def main(arguments):
