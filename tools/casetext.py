@@ -87,8 +87,8 @@ from collections import namedtuple
 from calls import ASSERT, CHECK, READ, WRITE
 from casefile import CaseFile, NotACaseFile, VALUES, parse
 from diagrams import FALSE, TRUE, Diagrams, TooLarge
+from endings import OUTPUT_CLOSED, complain, drop_output
 from expressions import LONGEST_NAME, Reader, Vector, nearest
-from runs import escaped
 from tables import USER_VARIABLE, VARIABLES, is_standard
 from words import LETTERS, Mistake, counted, fits, fitted, read_word, shown
 
@@ -619,11 +619,12 @@ def written(work, name):
     except UnicodeDecodeError:
         message = "%s is no text" % name
     except BrokenPipeError:
-        sys.stderr.close()
-        sys.exit(1)
+        drop_output()
+        sys.exit(OUTPUT_CLOSED)
     except (Mistake, NotACaseFile, OSError) as error:
         message = str(error)
-    sys.exit("casetext: %s" % escaped(message.encode("utf-8", "surrogateescape")))
+    complain("casetext", message)
+    sys.exit(1)
 
 
 def main():

@@ -9,28 +9,25 @@ that ends with a status other than 0, is ended by a signal, or does not end in T
 seconds differs.  Where the text is right and the program wrote to standard error there is
 no verdict: it says that something failed.  The stored cases (storedcases.py) that `memcase` runs come first, then N
 random ones, valid and damaged; case i of seed S is the same each time.  The first
-differences are printed, and the case files of all go to FOLDER where one is given.
-The status is 1 where anything differs, and 2 where nothing does and a verdict is missing.
+differences are printed, each with its kind (differences.py), and the case files of all go to
+FOLDER where one is given.  The status is 1 where anything differs, and 2 where nothing does
+and a verdict is missing, or where the tool cannot do what it is asked to.
 """
 
 import argparse
 import os
-import sys
 from collections import Counter
 
+from differences import classify
+from endings import Parser, end, need_least, need_time
 from randomcases import random_bytes
-from reference import memcase
-from runs import last_line, run
+from reference import TEXT_BYTES, memcase
+from runs import Misuse, escaped, last_line, need_program, run
 from storedcases import all_cases
 
 SHOWN = 5
 SHOWN_BYTES = 400
-
-
-def answer(program, data, timeout):
-    """What the program printed, or a text that says how it failed; and its standard error's end."""
-    done = run(program, data, timeout)
-    return "(%s)\n" % done.how if done.failure else done.out.decode("latin-1"), done.errors
+SHOWN_LINES = 20
 
 
 def stored_cases():
@@ -51,43 +48,79 @@ def outcome_kind(text):
     return "refused " + words[1] if words[0] == "refused" else "accepted"
 
 
-def shortened(text):
-    return text if len(text) <= SHOWN_BYTES else text[:SHOWN_BYTES] + ".. (%d bytes)\n" % len(text)
+def shown(text):
+    """The bytes of a text as far as they are shown, printable but for the ends of lines."""
+    lines = text[:SHOWN_BYTES].split(b"\n")
+    found = "\n".join(escaped(line) for line in lines[:SHOWN_LINES])
+    if len(lines) <= SHOWN_LINES and len(text) <= SHOWN_BYTES:
+        return found
+    return found + ".. (%s bytes)\n" % (len(text) if len(text) <= TEXT_BYTES else "more than %d" % TEXT_BYTES)
 
 
-def report(name, expected, found):
+def report(name, data, expected, done):
+    """Say how a run differs."""
+    found = "(%s)\n" % done.how if done.failure else shown(done.out)
     print("differs: " + name)
-    print("expected:\n" + shortened(expected) + "found:\n" + shortened(found))
+    if not done.failure:
+        difference = classify(data, expected, done.out)
+        print("%s: %s" % (difference.kind, difference.words))
+    print("expected:\n" + shown(expected) + "found:\n" + found)
 
 
 def keep(folder, name, data):
-    os.makedirs(folder, exist_ok=True)
-    with open(os.path.join(folder, name + ".case"), "wb") as file:
-        file.write(data)
+    try:
+        os.makedirs(folder, exist_ok=True)
+        with open(os.path.join(folder, name + ".case"), "wb") as file:
+            file.write(data)
+    except OSError as error:
+        raise Misuse("cannot keep a case file in %s: %s" % (folder, error.strerror)) from None
 
 
 def compare(named_cases, ask, folder=None):
     """Run all cases; how many differ, how many have no verdict, and a count of each kind of outcome."""
     different = missing = 0
     kinds = Counter()
-    for name, data, expected in named_cases:
-        kinds[outcome_kind(expected)] += 1
-        found, errors = ask(data)
-        if found != expected:
+    for name, data, text in named_cases:
+        kinds[outcome_kind(text)] += 1
+        expected = text.encode("ascii")
+        done = ask(data)
+        if done.failure or done.out != expected:
             different += 1
             if different <= SHOWN:
-                report(name, expected, found)
+                report(name, data, expected, done)
             if folder:
                 keep(folder, name, data)
-        elif errors:
+        elif done.errors:
             missing += 1
             if missing <= SHOWN:
-                print("no verdict: %s: the text is right, and the program wrote to standard error%s" % (name, last_line(errors)))
+                print("no verdict: %s: the text is right, and the program wrote to standard error%s"
+                      % (name, last_line(done.errors)))
     return different, missing, kinds
 
 
+def compare_program(options):
+    """Run a program on all cases and print what came out; the status to end with."""
+    need_least("--count", options.count, 0)
+    need_time("--timeout", options.timeout)
+    if options.no_stored and not options.count:
+        raise Misuse("no case to run: --count must be 1 or more with --no-stored")
+    program = need_program(options.program, ": name one that is there and can be run")
+
+    def wanted():
+        if not options.no_stored:
+            yield from stored_cases()
+        yield from random_cases(options.seed, options.count)
+
+    different, missing, kinds = compare(wanted(), lambda data: run(program, data, options.timeout), options.keep)
+    for kind, number in sorted(kinds.items(), key=lambda item: (len(item[0]), item[0])):
+        print("%6d %s" % (number, kind))
+    print("%d cases, %d differ%s"
+          % (sum(kinds.values()), different, ", %d without a verdict" % missing if missing else ""))
+    return 1 if different else 2 if missing else 0
+
+
 def main():
-    parser = argparse.ArgumentParser(description=__doc__, formatter_class=argparse.RawDescriptionHelpFormatter)
+    parser = Parser(description=__doc__, formatter_class=argparse.RawDescriptionHelpFormatter)
     parser.add_argument("--count", type=int, default=3000, help="random cases (3000)")
     parser.add_argument("--seed", type=int, default=1, help="seed of the random cases (1)")
     parser.add_argument("--timeout", type=float, default=20, help="seconds for one run (20)")
@@ -97,20 +130,7 @@ def main():
     options = parser.parse_args()
     if not options.program:
         parser.error("name the program")
-
-    def ask(data):
-        return answer(options.program, data, options.timeout)
-
-    def wanted():
-        if not options.no_stored:
-            yield from stored_cases()
-        yield from random_cases(options.seed, options.count)
-
-    different, missing, kinds = compare(wanted(), ask, options.keep)
-    for kind, number in sorted(kinds.items(), key=lambda item: (len(item[0]), item[0])):
-        print("%6d %s" % (number, kind))
-    print("%d cases, %d differ%s" % (sum(kinds.values()), different, ", %d without a verdict" % missing if missing else ""))
-    sys.exit(1 if different else 2 if missing else 0)
+    end("compare", compare_program, options)
 
 
 if __name__ == "__main__":

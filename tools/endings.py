@@ -1,7 +1,7 @@
 """How a tool ends: with the status of its work, or with one line on standard error that says what is wrong.
 
     2      the tool cannot do what it is asked to, or cannot write what it found
-    130    it was ended by Ctrl-C; nothing is said
+    130    it was ended by Ctrl-C, and the program that it ran with it; nothing is said.  143 and 129: by SIGTERM, SIGHUP
     141    its standard output was closed before all was written, as by `| head`; nothing is said
 
 The line is `TOOL: MESSAGE`, printable whatever it names, and cut where it is long.
@@ -10,12 +10,17 @@ The line is `TOOL: MESSAGE`, printable whatever it names, and cut where it is lo
 import argparse
 import math
 import os
+import signal
 import sys
+from contextlib import contextmanager
 
 from diagrams import TooLarge
 from runs import Misuse, escaped
 
-MISUSE, INTERRUPTED, OUTPUT_CLOSED = 2, 130, 141
+MISUSE, OUTPUT_CLOSED = 2, 141
+
+# Signals that end a tool; the status is 128 more.
+ENDING = signal.SIGINT, signal.SIGTERM, signal.SIGHUP
 
 # How much of a message is shown: its beginning, and its end, which says what to do.
 SHOWN_FIRST, SHOWN_LAST = 400, 200
@@ -77,6 +82,28 @@ def standard_input(most=-1):
         raise Misuse("cannot read standard input: %s" % (error.strerror or error)) from None
 
 
+class Ended(BaseException):
+    """A signal has ended the tool."""
+
+
+def stop(number, _frame):
+    raise Ended(number)
+
+
+@contextmanager
+def ended_by_signals():
+    """Signals that end a tool end what it runs first; those that are ignored stay ignored."""
+    before = {number: signal.getsignal(number) for number in ENDING}
+    changed = [number for number, handler in before.items() if handler != signal.SIG_IGN]
+    for number in changed:
+        signal.signal(number, stop)
+    try:
+        yield
+    finally:
+        for number in changed:
+            signal.signal(number, before[number])
+
+
 def drop_output():
     """What was not written is not tried again when Python ends."""
     with open(os.devnull, "wb") as nothing:
@@ -88,14 +115,15 @@ def status_of(name, work, arguments):
     try:
         if sys.stdout is None:
             raise Misuse("standard output is closed: give it a file")
-        status = work(*arguments)
-        sys.stdout.flush()
+        with ended_by_signals():
+            status = work(*arguments)
+            sys.stdout.flush()
         return status
     except BrokenPipeError:
         drop_output()
         return OUTPUT_CLOSED
-    except KeyboardInterrupt:
-        return INTERRUPTED
+    except Ended as ended:
+        return 128 + ended.args[0]
     except TooLarge:
         complain(name, "these conditions are too large to compare: compare cases with fewer variables")
     except Misuse as error:

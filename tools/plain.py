@@ -3,7 +3,8 @@
 
     python3 tools/plain.py [--count N] [--seed S]
 
-compares N random small cases.
+compares N random small cases.  The status is 1 where any differs, and 2 where the tool cannot do
+what it is asked to.
 
 `differences(outcome)` compares what the reference found, each read bit, the words that
 the ports hold after the list and the check condition, with the plain runs under each
@@ -18,11 +19,10 @@ on alike but for the other ports, so they are kept once for each port (`run_stat
 the two to each other.
 """
 
-import argparse
-import sys
 from collections import namedtuple
 from itertools import product
 
+from endings import Parser, end, need_least
 from randomcases import Random, tiny, without_refusals
 from calls import ASSERT, CHECK, PORTS, READ, WRITE
 from reference import run_case
@@ -187,11 +187,9 @@ def differences(outcome, n, w, run=run_states):
     return found
 
 
-def main():
-    parser = argparse.ArgumentParser(description="Compare the reference with all plain runs of small cases.")
-    parser.add_argument("--count", type=int, default=3000, help="random cases (3000)")
-    parser.add_argument("--seed", type=int, default=1, help="seed of the cases (1)")
-    options = parser.parse_args()
+def compare(options):
+    """Compare random cases and print what differs; the status to end with."""
+    need_least("--count", options.count, 1)
     different = 0
     for number in range(options.count):
         case = without_refusals(tiny(Random(options.seed * 1000003 + number)))
@@ -200,7 +198,14 @@ def main():
         for what in found:
             print("differs: seed %d case %d: %s" % (options.seed, number, what))
     print("%d cases, %d differ" % (options.count, different))
-    sys.exit(1 if different else 0)
+    return 1 if different else 0
+
+
+def main():
+    parser = Parser(description="Compare the reference with all plain runs of small cases.")
+    parser.add_argument("--count", type=int, default=3000, help="random cases (3000)")
+    parser.add_argument("--seed", type=int, default=1, help="seed of the cases (1)")
+    end("plain", compare, parser.parse_args())
 
 
 if __name__ == "__main__":

@@ -7,9 +7,9 @@ then a condition, of an address or data 0, then 1, then X, then a condition; the
 
 These are tried, over and over until none gives a smaller case that parts: accesses are dropped, halves first, then
 quarters, down to single ones; nodes that nothing names are dropped, or any where they are not in standard form;
-address and data bits are; a variable is set to 0 or 1, or made the same as another; a bit is replaced by 0, 1, X or by
-what its condition is where its first variable is 0 or 1, in all places where it stands and then in each; ports become
-0.  So in the end no single access can be dropped, unless the bound of tries was met.
+address and data bits are, down to one; a variable is set to 0 or 1, or made the same as another; a bit is replaced by
+0, 1, X or by what its condition is where its first variable is 0 or 1, in all places where it stands and then in each;
+ports become 0.  So in the end no single access can be dropped, unless a bound was met: of tries, or of cases made.
 
 Nodes that accesses make have other numbers where accesses or nodes are dropped.  They are taken as they come: their
 numbers are kept behind the last node of the file, and the test says whether the case still parts.  A damaged file is
@@ -27,6 +27,12 @@ from tables import USER_VARIABLE, Refused, is_standard
 
 # So many runs of a test that takes 20 ms are 10 seconds.
 TRIES = 500
+
+# So many cases are made for each that may be tried: some are no smaller, or were tried before.
+MADE = 4
+
+# Variables are made the same as others where there are no more of them, and no more nodes: it takes long.
+MERGED_VARIABLES, MERGED_NODES = 12, 1000
 
 # How many nodes a file may have, and the highest number of one that an access may name.
 NODES = 65535
@@ -204,7 +210,8 @@ def variables_of(case):
 def without_bits(case, field, dropped):
     """The case without some bits of its addresses or its data."""
     found = copy(case, [])
-    setattr(found, "n" if field == "address" else "w", getattr(case, "n" if field == "address" else "w") - len(dropped))
+    found.n -= len(dropped) if field == "address" else 0
+    found.w -= len(dropped) if field == "data" else 0
     for access in case.accesses:
         pairs = [pair for bit, pair in enumerate(getattr(access, field)) if bit not in dropped]
         found.accesses.append(access._replace(**{field: pairs}))
@@ -296,7 +303,8 @@ class Reduction:
     """The smallest case so far, and the tests that are left."""
 
     def __init__(self, data, parts, tries, note):
-        self.data, self.parts, self.left, self.note = data, parts, tries, note
+        self.data, self.parts, self.note = data, parts, note
+        self.left, self.made = tries, MADE * tries
         self.case, self.is_tidy = None, False
         self.seen = {data}
 
@@ -317,6 +325,9 @@ class Reduction:
 
     def attempt(self, case):
         """Take a case in the place of the smallest so far, if it is smaller and parts."""
+        self.made -= 1
+        if self.made < 0:
+            raise Enough()
         data = case.bytes()
         one, other = size(case, data), size(self.case, self.data)
         if one > other or one == other and plainness(case) >= plainness(self.case) or not self.parts_still(data):
@@ -389,9 +400,13 @@ class Reduction:
                 without_nodes(self.case, set(unneeded(self.case)[start:end]))))
 
     def drop_bits(self):
+        """One bit is left of an address and of data: without any the case is refused, whatever else it has."""
         for field, name in (("data", "w"), ("address", "n")):
-            self.drop(lambda name=name: getattr(self.case, name), lambda start, end, field=field: self.attempt(
-                self.tidied(without_bits(self.case, field, range(start, end)))))
+            def attempt(start, end, field=field, name=name):
+                left = getattr(self.case, name) - (end - start)
+                return left > 0 and self.attempt(self.tidied(without_bits(self.case, field, range(start, end))))
+
+            self.drop(lambda name=name: getattr(self.case, name), attempt)
 
     def fix_variables(self):
         if is_standard(self.case.nodes):
@@ -399,9 +414,10 @@ class Reduction:
                 self.attempt(self.tidied(restricted(self.case, variable, value)))
 
     def merge_variables(self):
-        if not is_standard(self.case.nodes):
+        if not is_standard(self.case.nodes) or len(self.case.nodes) > MERGED_NODES:
             return
-        for variable, other in itertools.permutations(variables_of(self.case), 2):
+        variables = variables_of(self.case)
+        for variable, other in itertools.permutations(variables if len(variables) <= MERGED_VARIABLES else [], 2):
             if min(variable, other) >= USER_VARIABLE and {variable, other} <= set(variables_of(self.case)):
                 try:
                     self.attempt(self.tidied(merged(self.case, variable, other)))

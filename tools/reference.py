@@ -17,11 +17,11 @@ the bytes.  With --searches it prints the node searches of the case in place of 
 text, up to the refusal of a refused one: how many Makes of unequal children
 searched, and how many nodes they compared; then the same without those of an Ite
 whose g or h is the node.  Every answer of Ite is remembered here and none is built
-twice, so that these are the searches of a program which forgets nothing.  Names in
-this file are the paper's (01).
+twice, so that these are the searches of a program which forgets nothing.  The status is 0
+where it prints, refusals too, and 2 where it cannot say what is printed.  Names in this
+file are the paper's (01).
 """
 
-import argparse
 import sys
 from collections import namedtuple
 
@@ -267,19 +267,30 @@ def searches_text(outcome):
     return "%s\npast g and h: %s\n" % tuple(lines)
 
 
+def run_given(options):
+    """Print what a case on standard input must print, with buffers of the lengths that are given."""
+    import endings
+    lengths = {name: value for name, value in vars(options).items() if name != "searches" and value is not None}
+    for name, value in lengths.items():
+        endings.need_least("--" + name.replace("_", "-"), value, 0)
+    data = endings.standard_input(-1 if lengths else INPUT_BYTES)
+    try:
+        outcome = run_case(data, **lengths)
+    except TooManyVariables as error:
+        raise endings.Misuse("%s variables in use; truth tables do %d" % (error, TABLE_VARIABLES)) from None
+    sys.stdout.write(searches_text(outcome) if options.searches else printed(outcome))
+    return 0
+
+
 def main():
-    parser = argparse.ArgumentParser(description="Print what a case file must print.")
+    # It uses this file, so that it is imported here.
+    import endings
+    parser = endings.Parser(description="Print what a case file must print.")
     parser.add_argument("--searches", action="store_true", help="print the node searches in place of the text")
     parser.add_argument("--node-words", type=int)
     parser.add_argument("--list-words", type=int)
     parser.add_argument("--text-bytes", type=int)
-    given = {name: value for name, value in vars(parser.parse_args()).items() if value is not None}
-    shown = searches_text if given.pop("searches") else printed
-    data = sys.stdin.buffer.read()
-    try:
-        sys.stdout.write(shown(run_case(data, **given) if given else run_case(data[:INPUT_BYTES])))
-    except TooManyVariables as error:
-        sys.exit("reference: %s variables in use; truth tables do %d" % (error, TABLE_VARIABLES))
+    endings.end("reference", run_given, parser.parse_args())
 
 
 if __name__ == "__main__":

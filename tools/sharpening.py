@@ -33,16 +33,15 @@ A node must be one of the file: those that accesses make have other numbers in a
 
 import argparse
 import functools
-import os
-import sys
 from collections import namedtuple
 
 import casetext
 import orders
 from calls import CHECK, READ, WRITE
 from casefile import Access, NotACaseFile, parse
-from diagrams import FALSE, TRUE, Diagrams, TooLarge
-from runs import Misuse, escaped, need_seconds, run, words_of
+from diagrams import FALSE, TRUE, Diagrams
+from endings import Parser, end, need_time, say
+from runs import Misuse, run, words_of
 from tables import USER_VARIABLE, is_standard
 
 # The largest case file has 7,000,000 bytes.
@@ -260,11 +259,6 @@ def shown_assignment(values):
 
 # What is printed
 
-def say(line, file=None):
-    """Print a line; the names and texts of others in it may have any bytes."""
-    print(escaped(os.fsencode(line)), file=file)
-
-
 def judgement_lines(pair, name, judgement):
     if judgement.verdict == orders.KEPT:
         yield "%s: order kept, reads and checks: %d, sharper in the second: %d" % (
@@ -296,7 +290,7 @@ def exit_status(pair, verdicts):
 
 def sharpening(options):
     """Compare, judge and print; the status to end with."""
-    need_seconds(options.seconds)
+    need_time("--seconds", options.seconds)
     pair = Pair(read_source(options.first), read_source(options.second))
     for change in pair.changes:
         say(pair.shown_change(change) + ("" if change.sharper else ": no sharpening there"))
@@ -309,22 +303,8 @@ def sharpening(options):
     return exit_status(pair, verdicts)
 
 
-def end(name, work, options):
-    """End with the status of a tool's work, and with 2 and a line where it cannot be done."""
-    try:
-        sys.exit(work(options))
-    except TooLarge:
-        message = "these conditions are too large to compare: compare cases with fewer variables"
-    except Misuse as error:
-        message = str(error)
-    except OSError as error:
-        message = "%s: %s" % (error.filename, error.strerror) if error.filename else str(error)
-    say("%s: %s" % (name, message), sys.stderr)
-    sys.exit(2)
-
-
 def main():
-    parser = argparse.ArgumentParser(description=__doc__, formatter_class=argparse.RawDescriptionHelpFormatter)
+    parser = Parser(description=__doc__, formatter_class=argparse.RawDescriptionHelpFormatter)
     parser.add_argument("first", metavar="FIRST")
     parser.add_argument("second", metavar="SECOND")
     parser.add_argument("--outputs", nargs=2, metavar=("TEXT1", "TEXT2"), help="what a simulator printed of both")

@@ -21,9 +21,10 @@ from collections import namedtuple
 import casetext
 from calls import CHECK, READ, WRITE
 from casefile import ONE, X, ZERO, CaseFile, NotACaseFile, parse
+from endings import Parser, end, need_least, say
 from randomcases import Random
 from runs import Misuse
-from sharpening import Pair, Source, end, need_nodes, read_source, say
+from sharpening import Pair, Source, need_nodes, read_source
 
 COUNT = 8
 SEED = 1
@@ -126,12 +127,13 @@ def write_new(path, text):
             file.write(text)
     except FileExistsError:
         raise Misuse("%s is there already: name another folder" % path) from None
+    except OSError as error:
+        raise Misuse("cannot write %s: %s" % (path, error.strerror)) from None
 
 
 def make(options):
     """Write the sharper cases and name them."""
-    if options.count < 1:
-        raise Misuse("--count must be 1 or more")
+    need_least("--count", options.count, 1)
     source = read_source(options.file)
     need_nodes(source)
     found = sharper_cases(source.case, options.count, options.seed)
@@ -148,7 +150,7 @@ def make(options):
 
 
 def main():
-    parser = argparse.ArgumentParser(description=__doc__, formatter_class=argparse.RawDescriptionHelpFormatter)
+    parser = Parser(description=__doc__, formatter_class=argparse.RawDescriptionHelpFormatter)
     parser.add_argument("file", metavar="FILE")
     parser.add_argument("folder", metavar="FOLDER")
     parser.add_argument("--count", type=int, default=COUNT, metavar="N", help="how many at most (%d)" % COUNT)

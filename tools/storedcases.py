@@ -17,14 +17,17 @@ words and 65,636 text bytes; then the text, if the case was accepted.  Words are
 and the record's words 7 before.  A digest is the buffer as one large number, its first word or byte
 the highest, and of that the remainder by 2^31 - 19.  cases/manifest has the names, in order.
 `through` is `memcase`, which lends its own lengths and reads the first 65,536 bytes, or `library`:
-the call that runs a case.  tests/cases.py makes these files.
+the call that runs a case.  tests/cases.py makes these files.  The status is 0, or 2 where the
+tool cannot do what it is asked to.
 """
 
 import os
 import sys
 from collections import namedtuple
 
+from endings import end
 from reference import refused_line
+from runs import Misuse
 
 ROOT = os.path.dirname(os.path.dirname(os.path.abspath(__file__)))
 INPUT = os.path.join(ROOT, "crates", "cases_test", "stdin")
@@ -55,7 +58,7 @@ def read(path, mode="rb"):
         with open(path, mode) as file:
             return file.read()
     except OSError as error:
-        sys.exit("storedcases: %s; run it in a whole clone" % error)
+        raise Misuse("cannot read %s: %s; run it in a whole clone" % (path, error.strerror)) from None
 
 
 def all_cases():
@@ -77,12 +80,14 @@ def named(name):
     for case in all_cases():
         if case.name == name:
             return case
-    sys.exit("storedcases: no case %s; `python3 tools/storedcases.py list` has the names" % name)
+    raise Misuse("no case %s; `python3 tools/storedcases.py list` has the names" % name)
 
 
-def main():
-    command, *names = sys.argv[1:] or ["--help"]
-    if command == "list" and not names:
+def show(command="", *names):
+    """Print what a command asks for."""
+    if command in ("-h", "--help"):
+        print(__doc__.strip())
+    elif command == "list" and not names:
         for case in all_cases():
             print(case.name, case.through, case.what)
     elif command == "case" and len(names) == 1:
@@ -90,7 +95,12 @@ def main():
     elif command == "text" and len(names) == 1:
         sys.stdout.write(named(names[0]).out)
     else:
-        sys.exit(__doc__)
+        raise Misuse("write `list`, `case NAME` or `text NAME`; --help says more")
+    return 0
+
+
+def main():
+    end("storedcases", show, *sys.argv[1:])
 
 
 if __name__ == "__main__":
