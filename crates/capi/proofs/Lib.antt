@@ -1,3 +1,2 @@
 pub mod CallLaws
-pub mod CaseLaws
 pub mod ClaimLaws

@@ -45,7 +45,7 @@ fn lend(x: Item, case: &[u8], words: &mut [u32], list: &mut [u32], text: &mut [u
     let m = length(x.a, words.len());
     let k = length(x.b, list.len());
     let t = length(x.c, text.len());
-    let row = capi::md_case(
+    let row = capi_cases::md_case(
         case,
         &mut words[..m],
         &mut list[..k],

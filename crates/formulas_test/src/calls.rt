@@ -29,7 +29,7 @@ fn formula(
     let mut made: u64 = 7;
     let mut place: u64 = 7;
     let row = if kind == 1 {
-        capi::md_assert_formula(
+        capi_cases::md_assert_formula(
             &mut record,
             nodes,
             list,
@@ -41,7 +41,7 @@ fn formula(
             &mut place,
         )
     } else {
-        capi::md_check_formula(
+        capi_cases::md_check_formula(
             &mut record,
             nodes,
             list,

@@ -9,7 +9,7 @@ use Rattle.casefile.specs.declared.CaseAnswer.the-variants as answer
 use Rattle.cases.specs.Case.{Case, caseOf}
 use Rattle.casefile.specs.Contract.{answered, caseAs}
 use Rattle.record_words.specs.Words.{wordsOf}
-use Rattle.capi.specs.Contract.{leftCase, caseBy, cased}
+use Rattle.capi_cases.specs.Contract.{leftCase, caseBy, cased}
 
 pub case-is : {x y : CaseAnswer} {w′ l′ b′ : List ℕ} (file w l b r : List ℕ) → x ≡ y → caseAs x w′ l′ b′ ≡ caseOf file w l b → caseBy (answered y) w′ l′ b′ r ≡ cased file w l b r
 unfolding cased

@@ -1,8 +1,8 @@
-use Rattle.capi.proofs.CaseLaws.{case-is, case-accepted}
+use Rattle.capi_cases.proofs.CaseLaws.{case-is, case-accepted}
 use denote.Ref.{now}
 use borrow.Author.Needs.{needs}
-use Rattle.capi.proofs.md_case.Statement.{statement}
-use Rattle.capi.proofs.md_case.Tie as tie
+use Rattle.capi_cases.proofs.md_case.Statement.{statement}
+use Rattle.capi_cases.proofs.md_case.Tie as tie
 
 run-case-requires : tie.Need-run-case-requires
 run-case-requires c κs = search needs
