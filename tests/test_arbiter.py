@@ -7,6 +7,7 @@ The reference stands in for `memcase`, so that nothing has to be built for them.
 """
 
 import os
+import re
 import shlex
 import shutil
 import subprocess
@@ -17,6 +18,8 @@ import unittest
 from concurrent.futures import ThreadPoolExecutor
 
 from rooms import ROOT, TOOLS
+import arbiter
+import casefolder
 import judging
 import reporttext
 import runs
@@ -127,13 +130,13 @@ class Verdicts(Folders):
             "",
             "second differs, sharper, read: 1 case",
             "  access 1 (read), bit 0, under every assignment: memcase admits 0 and 1, the simulator 1",
-            "  ruling-01.case, line 1, byte 8",
+            "  ruling-01.case, output line 1, byte 8",
             "    memcase  read 1:1",
             "    second   read 1:0",
             "",
             "case            first    second",
             "ruling-01.case  agreed   differs",
-            "  second differs, sharper: line 1, byte 8",
+            "  second differs, sharper: output line 1, byte 8",
             "    memcase  read 1:1",
             "    second   read 1:0",
         ], simulator("right"), simulator("loses-unknown"), "--table")
@@ -148,7 +151,7 @@ class Verdicts(Folders):
                 "",
                 name + " differs, sharper, read: 1 case",
                 "  access 1 (read), bit 0, under every assignment: memcase admits 0 and 1, the simulator 1",
-                "  ruling-01.case, line 1, byte 8",
+                "  ruling-01.case, output line 1, byte 8",
                 "    memcase  read 1:1",
                 "    %-7s  read 1:0" % name,
             ], simulator("loses-unknown"), *names)
@@ -164,7 +167,7 @@ class Verdicts(Folders):
             "",
             "first differs, looser, read: 3 cases",
             "  access 3 (read), bit 0, under every assignment: memcase admits 1, the simulator 0 and 1",
-            "  ruling-10-last.case, line 3, byte 8",
+            "  ruling-10-last.case, output line 3, byte 8",
             "    memcase  read 1:0",
             "    first    read 1:1",
             "  and in",
@@ -173,7 +176,7 @@ class Verdicts(Folders):
             "",
             "second differs, other, read: 1 case",
             "  access 9 (read), bit 0, under every assignment: memcase admits 1, the simulator 0",
-            "  ports-apart.case, line 9, byte 6",
+            "  ports-apart.case, output line 9, byte 6",
             "    memcase  read 1:0 1:0",
             "    second   read 0:1 0:1",
         ], simulator("forgets-held-word"), simulator("holds-across-ports"))
@@ -188,7 +191,7 @@ class Verdicts(Folders):
             "",
             "first differs, other, write: 2 cases",
             "  access 1 (write): idle in memcase's text, place 0 in the simulator's",
-            "  ruling-09.case, line 1, byte 7",
+            "  ruling-09.case, output line 1, byte 7",
             "    memcase  write idle",
             "    first    write 0",
             "  and in",
@@ -196,7 +199,7 @@ class Verdicts(Folders):
             "",
             "second differs, other, end: 2 cases",
             "  the last line: 0 entries in memcase's text, 1 entry in the simulator's",
-            "  ruling-09.case, line 3, byte 5",
+            "  ruling-09.case, output line 3, byte 5",
             "    memcase  end 0",
             "    second   end 1",
             "  and in",
@@ -280,14 +283,14 @@ class Verdicts(Folders):
             "",
             "first differs, no text, case: 1 case",
             "  the case: no text of it: the simulator wrote more than 65536 bytes",
-            "  worked.case, line 2, byte 1",
+            "  worked.case, output line 2, byte 1",
             "    memcase  read 1:(8 0 1)",
             "    first    write 0",
             "    first wrote more than 65536 bytes and was stopped",
             "",
             "second differs, no text, case: 1 case",
             "  the case: no text of it: the simulator wrote nothing",
-            "  worked.case, line 1, byte 1",
+            "  worked.case, output line 1, byte 1",
             "    memcase  write 0",
             "    second   (no line)",
         ], simulator("writes-without-end"), simulator("reads-nothing"))
@@ -358,7 +361,8 @@ class StrayTexts(Folders):
             file.truncate(1 << 30)
         left_out = [
             "left out: a.txt is no text of a case: line 2: unknown word `rite`",
-            "left out: b\\x1b[2J.txt is no text; a case file is named .case",
+            "left out: b\\x1b[2J.txt is not UTF-8 (byte 0xff in line 1): save it as UTF-8; "
+            "a case file is named .case",
             "left out: c.case is no file",
             "left out: d.txt is no file",
             "left out: huge.txt is longer than 16777216 bytes: no case and no text of one is",
@@ -366,18 +370,63 @@ class StrayTexts(Folders):
         status, out = self.arbitrate(simulator("right"))
         self.assertEqual((status, self.errors), (0, ""))
         lines = out.splitlines()
-        self.assertEqual(lines[:3], ["1 case", "first: agreed 1, differs 0, hung 0, crashed 0", ""])
+        self.assertEqual(lines[:3], ["1 case, 6 files left out (named below)",
+                                     "first: agreed 1, differs 0, hung 0, crashed 0", ""])
         self.assertEqual([line.split("; a line begins")[0] for line in lines[3:] if "long.txt" not in line], left_out)
         self.assertEqual([len(line) < 400 for line in lines if "long.txt" in line], [True])
         self.assertEqual(self.arbitrate(simulator("loses-unknown"))[0], 0)
         self.assertEqual(self.arbitrate(simulator("ends-with-status"))[0], 1)
+
+    def test_told(self):
+        """The first line counts files named as cases that are none, --strict fails them, and --all names the others."""
+        self.put("worked.txt", open_text("examples/worked.txt"))
+        self.put("inner/note\x1b.md", b"")
+        right = simulator("right")
+        status, out = self.arbitrate(right, "--strict", "--all")
+        lines = out.splitlines()
+        self.assertEqual((status, self.errors, lines[0]), (0, "", "1 case"))
+        self.assertEqual(lines[3:5], ["left out: 1 file not named .case, .txt or .csv", "  inner/note\\x1b.md"])
+        self.assertNotIn("note", self.arbitrate(right)[1])
+        self.put("typo.txt", b"memory n=1 w=1\nread enable=1 adress=0\n")
+        status, out = self.arbitrate(right)
+        self.assertEqual((status, self.errors, out.splitlines()[:2]), (0, "", [
+            "1 case, 1 file left out (named below)", "first: agreed 1, differs 0, hung 0, crashed 0"]))
+        self.assertIn("\nleft out: typo.txt is no text of a case: line 2", out)
+        self.assertEqual(self.arbitrate(right, "--strict"), (2, out))
+        self.assertEqual(self.errors, "arbiter: --strict: 1 file named as a case was left out\n")
+        self.put("more.TXT", b"")
+        self.assertEqual(self.arbitrate(simulator("loses-unknown"), "--strict")[0], 2)
+        self.assertEqual(self.errors, "arbiter: --strict: 2 files named as cases were left out\n")
+
+    def test_capital_letters(self):
+        """Suffixes count in any letters; links to folders are not followed."""
+        self.put("A.CASE", WORKED)
+        self.put("B.Txt", open_text("examples/worked.txt"))
+        self.put("C.CSV", open_text("examples/regfile.csv"))
+        os.symlink(os.path.join(ROOT, "examples"), os.path.join(self.folder, "linked"))
+        self.expect(0, ["3 cases", "first: agreed 3, differs 0, hung 0, crashed 0"], simulator("right"))
+
+    def test_other_encodings(self):
+        """What is wrong, and where, in a text that is not UTF-8."""
+        text = "# caf\xe9\nmemory n=1 w=1\n"
+        for place, (data, where) in enumerate([
+                (text.encode("latin-1"), "byte 0xe9 in line 1"),
+                (b"\n\n" + text.encode("latin-1"), "byte 0xe9 in line 3"),
+                (text.encode("utf-16"), "byte 0xff in line 1"),
+                (text.encode("utf-8")[:6], "byte 0xc3 in line 1")]):
+            path = os.path.join(self.folder, "%d.%s" % (place, ["txt", "CSV"][place % 2]))
+            self.put(path, data)
+            with self.assertRaises(runs.Misuse) as raised:
+                casefolder.read_case(path)
+            self.assertEqual(str(raised.exception),
+                             "is not UTF-8 (%s): save it as UTF-8; a case file is named .case" % where)
 
     def test_nothing_left(self):
         self.put("a.txt", b"memory n=1 w=1\nrite\n")
         status, out = self.arbitrate(simulator("right"))
         self.assertEqual((status, self.errors),
                          (2, "arbiter: nothing was run: no file of %s is a case\n" % self.folder))
-        self.assertEqual(out.splitlines()[0], "0 cases")
+        self.assertEqual(out.splitlines()[0], "0 cases, 1 file left out (named below)")
         self.assertIn("left out: a.txt is no text of a case: line 2: unknown word `rite`", out)
 
 
@@ -389,8 +438,54 @@ class MisuseTest(Folders):
     def test_folder(self):
         right = simulator("right")
         self.expect_misuse("no case in %s: no file is named .case, .txt or .csv" % self.folder, right, right)
-        self.folder += "/none"
+        self.put("worked.case", WORKED)
+        outer = self.folder
+        self.folder = outer + "/none"
         self.expect_misuse("no folder " + self.folder, right, right)
+        self.folder = outer + "/worked.case"
+        self.expect_misuse(self.folder + " is a file: give the folder that holds it", right, right)
+
+    def test_programs(self):
+        """A file that cannot be run, and words that are a shell's."""
+        self.put("worked.case", WORKED)
+        self.put("sim.sh", b"#!/bin/sh\nexec cat\n")
+        script = os.path.join(self.folder, "sim.sh")
+        os.chmod(script, 0o644)
+        self.expect_misuse(script + " is not executable: chmod +x it, or name its interpreter", script)
+        self.expect_misuse("no program " + script + "x", script + "x")
+        self.assertEqual(runs.words_of("sh " + script), ["sh", script])
+        self.expect_misuse("`|` is no word of a command that is run without a shell: use sh -c '..'",
+                           simulator("right") + " | cat")
+        for operator in ("|", ">", ">>", "<", "2>", "&&", "||", ";", "&"):
+            with self.assertRaisesRegex(runs.Misuse, "^`%s` is no word" % re.escape(operator)):
+                runs.words_of("cat %s f" % operator)
+            inner = "cat %s f" % operator
+            self.assertEqual(runs.words_of("sh -c '%s'" % inner), ["sh", "-c", inner])
+
+    def test_files_written(self):
+        """Files that would overwrite each other, and a folder whose files would be cases; nothing is run."""
+        self.put("worked.case", WORKED)
+        hangs = simulator("hangs")
+        place = tempfile.mkdtemp()
+        self.addCleanup(shutil.rmtree, place)
+        same = os.path.join(place, "a")
+        os.symlink(place, os.path.join(place, "again"))
+        for other in (same, os.path.join(place, ".", "a"), os.path.join(place, "again", "a")):
+            self.expect_misuse("--json and --html both write %s: name two files" % other, hangs, "--json", same,
+                               "--html", other)
+        inner = os.path.join(self.folder, "new")
+        self.expect_misuse("--reduced %s is in the folder of cases, so that its files are cases of the next run: "
+                           "name one outside of it" % inner, hangs, "--reduced", inner)
+        os.symlink(self.folder, os.path.join(place, "cases"))
+        for path in ("", "/", "/inner/new", "/inner/.."):
+            for folder in (self.folder, os.path.join(place, "cases")):
+                with self.assertRaisesRegex(runs.Misuse, "is in the folder of cases"):
+                    arbiter.need_reduced(folder + path, self.folder)
+        beside = self.folder + "-reduced"
+        self.addCleanup(shutil.rmtree, beside, True)
+        self.assertEqual(self.arbitrate(simulator("right"), "--reduced", beside, "--json", "/dev/null", "--html",
+                                        "/dev/null")[0], 0)
+        self.assertEqual(self.errors, "")
 
     def test_commands_and_options(self):
         self.put("worked.case", WORKED)
@@ -426,6 +521,7 @@ class Runs(unittest.TestCase):
         hung = runs.HUNG, "it had not ended after 0.5 seconds"
         self.assertEqual(run("right"), (WORKED_TEXT, None, None))
         self.assertEqual(run("hangs", seconds=SOON), (b"", *hung))
+        self.assertEqual(run("hangs", seconds=1), (b"", runs.HUNG, "it had not ended after 1 second"))
         self.assertEqual(run("complains-without-end", seconds=SOON), (b"", *hung))
         self.assertEqual(run("ends-with-status-after-text"),
                          (WORKED_TEXT, runs.CRASHED, "it ended with status 3"))
@@ -466,6 +562,23 @@ def alive(process):
             return file.read().rpartition(")")[2].split()[0] != "Z"
     except FileNotFoundError:
         return False
+
+
+class Simulators(unittest.TestCase):
+    def test_ways(self):
+        """Words that are no way are answered by the ways, and each of those is one."""
+        known = None
+        for words in ([], ["--help"], ["wrong"], ["right", "right"]):
+            path = os.path.join(ROOT, "tests", "simulators", "simulator.py")
+            done = subprocess.run([sys.executable, path, *words], stdin=subprocess.DEVNULL, capture_output=True,
+                                  check=False)
+            self.assertEqual((done.returncode, done.stdout), (2, b""))
+            start, _, ways = done.stderr.decode("ascii").partition(": WAY is one of: ")
+            self.assertEqual((start, ways.count("\n")), ("simulator", 1))
+            self.assertIn(known, (None, ways))
+            known = ways
+        self.assertLessEqual({"right", "loses-unknown", "holds-across-ports", "idle-forgets"},
+                             set(known.strip().split(", ")))
 
 
 class Comparing(unittest.TestCase):

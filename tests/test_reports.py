@@ -110,7 +110,7 @@ def made(cases, answers, shard=(1, 1), names=("A", "B"), sharpen=0):
     cases = sorted(cases, key=lambda case: reports.case_order(case[0]))
     mine = cases[shard[0] - 1::shard[1]]
     report = arbiter.new_report(options(commands=list(names), sharpen=sharpen), list(names), list(shard), len(cases),
-                                len(mine), 0)
+                                len(mine), [])
     judge = judging.Judging(Answering(right), [Answering(answer) for answer in answers], sharpen)
     report["cases"] = [judge.record(name, lambda data=data: data) for name, data in mine]
     report["parts"][0]["done"] = len(mine)
@@ -292,7 +292,7 @@ class Joining(unittest.TestCase):
         early["parts"][0].update(ended="SIGTERM", done=5, began="2026-01-01T00:00:00Z")
         joined = self.join([early, parts[1]])
         self.assertEqual(reports.status(joined, True), 2)
-        self.assertIn("shard 1/2 ended early (SIGTERM): 5 of 20 cases", printed(joined, True))
+        self.assertIn("shard 1/2 ended early (SIGTERM): 5 of 20 files looked at", printed(joined, True))
         self.assertEqual(printed(self.join([early, *parts]), True), printed(self.whole))
 
     def test_twice(self):
@@ -309,6 +309,22 @@ class Joining(unittest.TestCase):
             case["orders"][0] = []
         for pair in ([self.whole, other], [other, self.whole]):
             self.assertEqual(reports.totals(self.join(pair)), reports.totals(self.whole))
+
+    def test_other_files(self):
+        """The names of files that are no cases are kept; a report without them, as older ones are, is joined too."""
+        named = copy.deepcopy(self.whole)
+        named.update(unnamed=2, others=["a<b>.md", "notes"])
+        older = {name: value for name, value in written(named).items() if name != "others"}
+        self.assertTrue(reports.fits(older))
+        line = "left out: 2 files not named .case, .txt or .csv\n"
+        self.assertIn("\n%s  a<b>.md\n  notes\n" % line, printed(written(named)))
+        self.assertIn("\n%s\n" % line, printed(older))
+        for pair in ([named, older], [older, named]):
+            self.assertEqual(printed(self.join(pair), True), printed(named))
+        self.assertIn("a&lt;b&gt;.md", reportpage.page(named))
+        self.assertIn("2 files not named", reportpage.page(older))
+        for others in (None, [1], "notes"):
+            self.assertFalse(reports.fits({**named, "others": others}))
 
     def test_mistakes(self):
         name = self.whole["cases"][4]["name"]
@@ -525,6 +541,8 @@ class Commands(unittest.TestCase):
             self.assertEqual(errors, "")
         self.assertEqual(self.merge(*names, "--json", "all.json", "--html", "all.html"), whole)
         self.assertEqual(self.merge("all.json"), whole)
+        self.assertEqual(self.merge("all.json", "--strict"),
+                         (2, whole[1], "arbiter: --strict: 1 file named as a case was left out\n"))
         status, out, errors = self.merge("all.json", "--json", "-")
         self.assertEqual((status, json.loads(out)["totals"]["cases"], errors), (1, 4, ""))
         self.assertEqual(self.merge(names[0])[0], 2)
@@ -555,22 +573,41 @@ class Commands(unittest.TestCase):
                     "2 cases",
                     "first: agreed 2, differs 0, hung 0, crashed 0",
                     "second: agreed 2, differs 0, hung 0, crashed 0",
-                    "ended early (%s): 2 of 4 cases" % number.name], ""))
+                    "ended early (%s): 2 of 4 files looked at" % number.name], ""))
                 self.assertEqual(len(left), 2)
                 self.assertFalse([process for process in left if not gone(process)])
                 status, out, _ = self.merge("a.json")
-                self.assertEqual((status, out.splitlines()[3]), (2, "ended early (%s): 2 of 4 cases" % number.name))
+                self.assertEqual((status, out.splitlines()[3]),
+                                 (2, "ended early (%s): 2 of 4 files looked at" % number.name))
                 self.assertTrue(os.path.getsize(self.path("a.html")))
 
-    def test_impatience(self):
-        """Ctrl-C twice leaves no process either."""
+    def test_sent_again(self):
+        """A further SIGINT at once, as `timeout -s INT` sends it, loses no report and leaves no process."""
+        self.put("a.txt", EXAMPLE)
+        self.put("b.txt", b"memory n=1 w=1\nrite\n")
         self.put("c.case", storedcases.named("ruling-09").data)
-        status, _, errors, left = self.ended_by(signal.SIGINT, True)
-        self.assertIn((status, errors), [(-signal.SIGINT, ""), (128 + signal.SIGINT, "")])
+        status, out, errors, left = self.ended_by(signal.SIGINT, True)
+        self.assertEqual((status, out.splitlines()[:4], errors), (128 + signal.SIGINT, [
+            "1 case, 1 file left out (named below)",
+            "first: agreed 1, differs 0, hung 0, crashed 0",
+            "second: agreed 1, differs 0, hung 0, crashed 0",
+            "ended early (SIGINT): 2 of 3 files looked at"], ""))
+        self.assertEqual(len(reports.read_file(self.path("a.json"))["cases"]), 1)
         self.assertEqual([gone(process) for process in left], [True, True])
 
-    def ended_by(self, number, twice=False):
-        """The arbiter's end where a signal comes while a simulator hangs; the processes that hung."""
+    def test_sent_later(self):
+        """A further SIGINT ends it from one second after the first signal on, whichever that was; others do not."""
+        for first in ("SIGINT", "SIGTERM", "SIGHUP"):
+            with self.subTest(first):
+                done = subprocess.run(
+                    [sys.executable, "-c", SENT_LATER, TOOLS, first], capture_output=True, check=False,
+                    preexec_fn=lambda: signal.signal(signal.SIGINT, signal.default_int_handler))
+                self.assertEqual((done.returncode, done.stdout.decode("ascii").split(), done.stderr), (
+                    -signal.SIGINT, [first, "0.0", "0.5", "0.99", "SIGTERM"], b""))
+
+    def ended_by(self, number, again=False):
+        """The arbiter's end where a signal comes while a simulator hangs, and some more at once; the processes that
+        hung."""
         pids = self.path("pids-%d" % number)
         process = subprocess.Popen(
             self.words(self.path("cases"), simulator("right"), simulator("hangs-where-idle"), "--memcase", REFERENCE,
@@ -583,8 +620,8 @@ class Commands(unittest.TestCase):
                     break
                 time.sleep(0.05)
             process.send_signal(number)
-            if twice:
-                time.sleep(0.01)
+            for _ in range(5 if again else 0):
+                time.sleep(0.002)
                 process.send_signal(number)
             out, errors = process.communicate(timeout=60)
         finally:
@@ -618,6 +655,28 @@ class Commands(unittest.TestCase):
         with os.fdopen(ends[1], "wb") as closed:
             done = subprocess.run(words, stdout=closed, stderr=subprocess.PIPE, check=False)
         self.assertEqual((done.returncode, done.stderr), (1, b""))
+
+
+# Signals that a process sends itself, at the times of a clock that is set by hand.
+SENT_LATER = """
+import os, signal, sys
+sys.path.insert(0, sys.argv[1])
+import progress
+clock = 100.0
+progress.time.monotonic = lambda: clock
+stopping = progress.Stopping()
+os.kill(os.getpid(), signal.Signals[sys.argv[2]])
+print(stopping.signal.name, flush=True)
+for later in (0.0, 0.5, 0.99):
+    clock = 100 + later
+    os.kill(os.getpid(), signal.SIGINT)
+    print(later, flush=True)
+clock = 101.0
+os.kill(os.getpid(), signal.SIGTERM)
+print("SIGTERM", flush=True)
+os.kill(os.getpid(), signal.SIGINT)
+print("still there", flush=True)
+"""
 
 
 def lines_of(path):

@@ -5,9 +5,9 @@
     python3 tools/arbiter.py merge [options] REPORT.json ..
 
 Cases are the files of FOLDER and of the folders in it that are named `.case`, and those named `.txt` or `.csv`, which
-are texts and traces of casetext.py and encoded first.  A command gets a case on its standard input and writes the
-case's text to its standard output.  It is split into words as a shell does it and run without a shell, in the folder
-where the arbiter is run.
+are texts and traces of casetext.py and encoded first; capital letters count too, and links to folders are not followed.
+A command gets a case on its standard input and writes the case's text to its standard output.  It is split into words
+as a shell does it and run without a shell, in the folder where the arbiter is run.
 
     agreed    standard output is byte for byte what `memcase` prints, and the status 0
     differs   it is not, with status 0; or it is longer than any text of `memcase`
@@ -32,7 +32,7 @@ A difference is one of these kinds, by the first line that does not say the same
 Totals are printed first.  Then come groups, each with its cases: the differences of one simulator, of one kind and in
 one kind of access, with what shows the smallest of them; then runs that crashed or hung in one way; then cases without
 a verdict, those in which both simulators have the same wrong line first, and files that are left out: those named
-`.txt` that are no text of a case, and those that cannot be read.
+`.txt` that are no text of a case, and those that cannot be read.  They change the status with --strict alone.
 
 With --reduce the smallest case is looked for on which the simulator still differs in the way of a group.  With
 --sharpen N each simulator is also run on up to N sharper cases of each case, in which bits that are X there are 0 or 1
@@ -44,11 +44,13 @@ claimed where it refuses one of the two.
 run, from the I-th on, so that N machines or jobs share a folder; `merge` joins the reports and prints what one run of
 all cases prints.
 
-Ctrl-C, SIGTERM and SIGHUP kill the simulators, and what was finished is reported.
+Ctrl-C, SIGTERM and SIGHUP kill the simulators, and what was finished is reported.  Ctrl-C once more, a second later,
+ends it without a report.
 
 The status is 0 where all agreed; 1 where a simulator did not, swings, or failed on a sharper case; 2 where `memcase`
-failed, the arbiter cannot do what it is asked to, nothing was there to be run, or a part is missing from what is
-merged; 130, 143 and 129 after Ctrl-C, SIGTERM and SIGHUP.
+failed, the arbiter cannot do what it is asked to, nothing was there to be run (an empty shard is 0), a part is missing
+from what is merged, or, with --strict, a file named as a case was left out; 130, 143 and 129 after Ctrl-C, SIGTERM and
+SIGHUP.
 """
 
 import argparse
@@ -112,6 +114,24 @@ def need_files(options):
     for path in (options.json, options.html):
         if path not in (None, "-"):
             reports.need_place(path)
+    if options.json not in (None, "-") and options.html is not None and is_same_file(options.json, options.html):
+        raise Misuse("--json and --html both write %s: name two files" % options.html)
+
+
+def is_same_file(one, other):
+    """Whether two names are of one file that is there or can be made; a device takes both."""
+    one, other = os.path.realpath(one), os.path.realpath(other)
+    return one == other and (os.path.isfile(one) or not os.path.exists(one))
+
+
+def need_reduced(folder, cases):
+    """See that the smallest cases can be written to a folder, and are no cases of the next run."""
+    if os.path.exists(folder) and not os.path.isdir(folder):
+        raise Misuse("%s is no folder, and --reduced writes to one" % folder)
+    outer = os.path.realpath(cases)
+    if os.path.commonpath([outer, os.path.realpath(folder)]) == outer:
+        raise Misuse("--reduced %s is in the folder of cases, so that its files are cases of the next run: name one "
+                     "outside of it" % shortened(folder))
 
 
 def need_options(options):
@@ -123,8 +143,8 @@ def need_options(options):
     if not 0 < options.reduce_seconds < float("inf"):
         raise Misuse("--reduce-seconds must be above 0")
     need_files(options)
-    if options.reduced is not None and os.path.exists(options.reduced) and not os.path.isdir(options.reduced):
-        raise Misuse("%s is no folder, and --reduced writes to one" % options.reduced)
+    if options.reduced is not None:
+        need_reduced(options.reduced, options.folder)
 
 
 # An arbitration
@@ -199,12 +219,13 @@ def write_reduced(folder, report):
                 file.write(item["text"])
 
 
-def new_report(options, names, shard, found, planned, unnamed):
+def new_report(options, names, shard, found, planned, others):
     part = {"folder": escaped(os.fsencode(options.folder)), "shard": shard, "found": found, "planned": planned,
             "done": 0, "ended": None, "began": time.strftime("%Y-%m-%dT%H:%M:%SZ", time.gmtime()), "took": 0}
     return {"format": reports.FORMAT, "names": names, "commands": options.commands,
             "memcase": options.memcase or MEMCASE, "seconds": options.seconds, "sharpen": options.sharpen,
-            "hangs": options.hangs, "parts": [part], "unnamed": unnamed, "left_out": [], "cases": [], "reduced": []}
+            "hangs": options.hangs, "parts": [part], "unnamed": len(others), "others": others, "left_out": [],
+            "cases": [], "reduced": []}
 
 
 def arbitrate(options, stopping):
@@ -215,9 +236,9 @@ def arbitrate(options, stopping):
     memcase = Program(JUDGE, read_memcase(options.memcase), options.seconds, options.hangs)
     simulators = [Program(name, words_of(command), options.seconds, options.hangs)
                   for name, command in zip(names, options.commands)]
-    every, unnamed = case_files(options.folder)
+    every, others = case_files(options.folder)
     files = every[shard[0] - 1::shard[1]]
-    report = new_report(options, names, shard, len(every), len(files), unnamed)
+    report = new_report(options, names, shard, len(every), len(files), others)
     judging = Judging(memcase, simulators, options.sharpen)
 
     begun = time.monotonic()
@@ -238,7 +259,16 @@ def arbitrate(options, stopping):
         raise error
     if not report["cases"] and part["ended"] is None and shard[1] == 1:
         raise Misuse("nothing was run: no file of %s is a case" % options.folder)
+    need_all(report, options)
     return reports.status(report)
+
+
+def need_all(report, options):
+    """With --strict, see that no file that is named as a case was left out."""
+    if options.strict and report["left_out"]:
+        many = len(report["left_out"])
+        raise Misuse("--strict: %s named as %s left out" % (
+            counted(many, "file"), "a case was" if many == 1 else "cases were"))
 
 
 def merge(options):
@@ -246,6 +276,7 @@ def merge(options):
     need_files(options)
     report = reports.joined(options.reports, [reports.read_file(path) for path in options.reports])
     tell(report, options, True)
+    need_all(report, options)
     return reports.status(report, True)
 
 
@@ -282,10 +313,12 @@ def put(lines):
 
 def add_shown(parser):
     """The options of what is told."""
-    parser.add_argument("--all", action="store_true", help="name all cases of a group, and a row for every case")
+    parser.add_argument("--all", action="store_true",
+                        help="name all cases of a group and all files left out, and a row for every case")
     parser.add_argument("--table", action="store_true", help="a row for every case on which not all agreed")
     parser.add_argument("--json", metavar="FILE", help="write a report; - is standard output, with nothing else")
     parser.add_argument("--html", metavar="FILE", help="write a page for a browser")
+    parser.add_argument("--strict", action="store_true", help="status 2 where a file named as a case was left out")
 
 
 class Parser(argparse.ArgumentParser):
@@ -377,7 +410,7 @@ def main():
         status = 2
     except AllEnded:
         status = 2
-    sys.exit(128 + stopping.signal if stopping.signal else status)
+    sys.exit(stopping.status(status))
 
 
 if __name__ == "__main__":

@@ -33,16 +33,28 @@ def paths_in(folder):
     return sorted(found)
 
 
+def is_named(name, suffixes):
+    """Whether a name ends so, in letters of either case."""
+    return name.lower().endswith(suffixes)
+
+
 def case_files(folder):
-    """The files of a folder that are named as cases, and how many are not."""
+    """The files of a folder that are named as cases, and the names of those that are not."""
+    if os.path.isfile(folder):
+        raise Misuse("%s is a file: give the folder that holds it" % folder)
     if not os.path.isdir(folder):
         raise Misuse("no folder %s" % folder)
     paths = paths_in(folder)
-    named = [path for path in paths if path[-1].endswith(NAMES)]
+    named = [path for path in paths if is_named(path[-1], NAMES)]
     if not named:
         raise Misuse("no case in %s: no file is named .case, .txt or .csv" % folder)
-    files = [File(escaped(os.fsencode("/".join(path))), os.path.join(folder, *path)) for path in named]
-    return files, len(paths) - len(named)
+    files = [File(name_of(path), os.path.join(folder, *path)) for path in named]
+    return files, [name_of(path) for path in paths if not is_named(path[-1], NAMES)]
+
+
+def name_of(path):
+    """What a file of the folder is called, given the list of names that lead to it."""
+    return escaped(os.fsencode("/".join(path)))
 
 
 def read_bytes(path):
@@ -62,12 +74,13 @@ def read_bytes(path):
 def read_case(path):
     """The bytes of a case; Misuse, with words to stand after its name, otherwise."""
     data = read_bytes(path)
-    if path.endswith(".case"):
+    if is_named(path, ".case"):
         return data
     try:
-        return casetext.encode(traces.text_of(data) if path.endswith(".csv") else data.decode("utf-8"))
-    except UnicodeDecodeError:
-        raise Misuse("is no text; a case file is named .case") from None
+        return casetext.encode(traces.text_of(data) if is_named(path, ".csv") else data.decode("utf-8"))
+    except UnicodeDecodeError as error:
+        raise Misuse("is not UTF-8 (byte 0x%02x in line %d): save it as UTF-8; a case file is named .case" % (
+            data[error.start], data.count(b"\n", 0, error.start) + 1)) from None
     except casetext.Mistake as mistake:
         raise Misuse("is no text of a case: " + shortened(str(mistake))) from None
     except (ValueError, RecursionError):

@@ -170,7 +170,8 @@ class Judging:
 
     def not_run(self, name):
         """What is kept of a case where nothing is run any more."""
-        fault = "was given up after %d hung runs" % self.memcase.hangs if self.memcase.given_up() else None
+        many = "%d hung run%s" % (self.memcase.hangs, "" if self.memcase.hangs == 1 else "s")
+        fault = "was given up after " + many if self.memcase.given_up() else None
         return {"name": name, "bytes": None, "digest": None, "seconds": 0, "fault": fault,
                 **self.without_runs(NO_VERDICT if fault else NOT_RUN)}
 

@@ -1,5 +1,6 @@
 """Work of many runs: by threads, with a line that says how far it is, and ended by signals."""
 
+import os
 import queue
 import signal
 import sys
@@ -14,22 +15,38 @@ TERMINAL_SECONDS, LOG_SECONDS = 0.1, 5
 TICK_SECONDS = 0.5
 
 STOPPING = signal.SIGINT, signal.SIGTERM, signal.SIGHUP
+# So long after the first signal a further SIGINT is taken for the same one: `timeout` sends two, one to the process
+# and one to its group.
+SAME_SECONDS = 1
 
 
 class Stopping:
-    """Signals that end the runs: the first ends them, and SIGINT once more ends the arbiter itself."""
+    """Signals that end the runs: the first ends them, and SIGINT once more, a second later, the arbiter itself."""
 
     def __init__(self):
         self.signal = None
+        self.since = None
         self.heeded = [number for number in STOPPING if signal.getsignal(number) != signal.SIG_IGN]
         for number in self.heeded:
             signal.signal(number, self.stop)
 
     def stop(self, number, _):
-        self.signal = signal.Signals(number)
-        end_all()
-        for other in self.heeded:
-            signal.signal(other, signal.SIG_DFL if other == signal.SIGINT else signal.SIG_IGN)
+        if self.signal is None:
+            self.since = time.monotonic()
+            self.signal = signal.Signals(number)
+            end_all()
+        elif number == signal.SIGINT and time.monotonic() - self.since >= SAME_SECONDS:
+            signal.signal(number, signal.SIG_DFL)
+            os.kill(os.getpid(), number)
+
+    def status(self, status):
+        """The status to end with, when all is told: this one where no signal came, and further signals do not change
+        that of the first."""
+        if self.signal is None:
+            return status
+        for number in self.heeded:
+            signal.signal(number, signal.SIG_IGN)
+        return 128 + self.signal
 
 
 class Progress:

@@ -10,8 +10,9 @@ import textwrap
 import orders
 from reports import (AGREED, CRASHED, DIFFERS, HUNG, NO_VERDICT, NOT_RUN, VERDICTS, groups, kind_counts,
                      missing_shards, order_counts, reduced_of, sharper_counts, verdict_counts)
-from reporttext import (counted, detail_lines, end_lines, extent_words, failure_words, first_lines, is_open, printable,
-                        reduced_words, shards_words, shown_lines, title)
+from reporttext import (counted, detail_lines, end_lines, extent_words, failure_words, first_lines, is_open,
+                        place_words, printable, reduced_words, shards_words, shown_lines, title)
+from runs import seconds_words
 
 CLASSES = {AGREED: "agreed", DIFFERS: "differs", HUNG: "hung", CRASHED: "crashed", NOT_RUN: "notrun",
            NO_VERDICT: "notrun", orders.SWINGS: "differs", orders.FAILED: "crashed"}
@@ -161,8 +162,8 @@ def group_section(report, number, group):
     run = report["cases"][group.cases[0]]["runs"][group.simulator]
     if group.verdict == DIFFERS:
         parts += [paragraph(lines[0]), shown_assignment(run["difference"]["assignment"]),
-                  element("p", case_link(report, group.cases[0]) + text(
-                      ", line %d, byte %d" % (run["shown"]["line"], run["shown"]["byte"]))), pre(flush(lines[2:]))]
+                  element("p", case_link(report, group.cases[0]) + text(", " + place_words(run["shown"]))),
+                  pre(flush(lines[2:]))]
     else:
         parts.append(pre(lines))
     reduced = reduced_of(report, group)
@@ -208,7 +209,9 @@ def left_out_part(report):
     files = [element("span", text(file["name"]), class_="case") + " " + text(file["why"])
              for file in report["left_out"]]
     if report["unnamed"]:
-        files.append(text("%s not named .case, .txt or .csv" % counted(report["unnamed"], "file")))
+        said = text("%s not named .case, .txt or .csv" % counted(report["unnamed"], "file"))
+        items = "".join(element("li", text(name), class_="case") for name in report.get("others", []))
+        files.append(element("details", element("summary", said) + element("ul", items)) if items else said)
     return list_part("Left out", "Files of the folder that are no cases.", files)
 
 
@@ -227,7 +230,7 @@ def brief(report, case):
 
 def brief_run(run):
     if run["verdict"] == DIFFERS:
-        return "%s, %s, line %d" % (run["difference"]["kind"], run["difference"]["access"], run["shown"]["line"])
+        return "%s, %s, output line %d" % (run["difference"]["kind"], run["difference"]["access"], run["shown"]["line"])
     return failure_words(run) if run["verdict"] in (HUNG, CRASHED) else run["verdict"]
 
 
@@ -274,9 +277,9 @@ def warnings(report, merged):
 def parts_part(report):
     rows = [row([text(part["folder"]), text(shards_words([part["shard"]])), part["done"], part["planned"],
                  text(part["began"]), part["took"]]) for part in report["parts"]]
-    said = "judge: %s; %g seconds for one run" % (report["memcase"], report["seconds"])
+    said = "judge: %s; %s for one run" % (report["memcase"], seconds_words(report["seconds"]))
     return element("h2", "Runs") + paragraph(said) + table(
-        ["folder", "shard", Figure("cases run"), Figure("of"), "began", Figure("seconds")], rows)
+        ["folder", "shard", Figure("files looked at"), Figure("of"), "began", Figure("seconds")], rows)
 
 
 def page(report, merged=False):

@@ -6,10 +6,10 @@ A report is a dictionary of plain values, so that the file `--json` writes has a
     names       what the simulators are called; `commands`, `memcase`: the command lines
     seconds     for one run; `sharpen`, `hangs`: as the options of those names
     parts       what was run to make it, more than one of joined reports: `folder`; `shard`, the numbers I and N of
-                every N-th case from the I-th on, 1 and 1 of all; `found`, the cases of the whole folder; `planned`
-                and `done`, how many were to be run and were; `ended`, what ended it early, or null; `began`, `took`:
-                when it began, and how many seconds it took
-    unnamed     how many files are no cases by their names
+                every N-th case from the I-th on, 1 and 1 of all; `found`, the files of the whole folder that are named
+                as cases; `planned` and `done`, how many of them were to be looked at and were; `ended`, what ended it
+                early, or null; `began`, `took`: when it began, and how many seconds it took
+    unnamed     how many files are no cases by their names; `others`: these names, which older reports do not have
     left_out    files that are named as cases and are none: `name`, `why`
     cases       in the order of their names: `name`; `bytes`, `digest`: of the case file, null where it was not read;
                 `seconds` of `memcase`; `fault`, why there is no verdict, or null; `runs`, `alike`, `orders`
@@ -108,7 +108,7 @@ def fits(report):
     if not REPORT.is_of(report) or not report["parts"]:
         return False
     many = len(report["names"])
-    return (many in (1, 2) and len(report["commands"]) == many
+    return (many in (1, 2) and len(report["commands"]) == many and list_of(STRING).is_of(report.get("others", []))
             and all(len(case["runs"]) == len(case["orders"]) == many for case in report["cases"])
             and all(len(part["shard"]) == 2 and 1 <= part["shard"][0] <= part["shard"][1] for part in report["parts"])
             and all(0 <= reduced["simulator"] < many for reduced in report["reduced"]))
@@ -375,6 +375,7 @@ def joined(paths, reports):
         **reports[0],
         "parts": sorted(unlike(every["parts"]), key=lambda part: (part["shard"][1], part["shard"][0], part["began"])),
         "unnamed": max(report["unnamed"] for report in reports),
+        "others": max((report.get("others", []) for report in reports), key=len),
         "left_out": sorted(unlike(every["left_out"]), key=lambda file: case_order(file["name"])),
         "cases": joined_cases(paths, reports),
         "reduced": unlike(every["reduced"])}

@@ -26,8 +26,10 @@ def shards_words(shards):
 
 
 def extent_words(report, merged):
-    """How many cases there are; and of how many, where it is not all of them."""
+    """How many cases there are, how many files named as cases are none, and the shard, or those that are missing."""
     words = counted(len(report["cases"]), "case")
+    if report["left_out"]:
+        words += ", %s left out (named below)" % counted(len(report["left_out"]), "file")
     if merged and missing_shards(report):
         return "%s; missing: shards %s" % (words, shards_words(missing_shards(report)))
     if not merged and missing_shards(report):
@@ -39,7 +41,8 @@ def end_lines(report):
     """Where runs were ended early."""
     for part in ended_parts(report):
         shard = "" if part["shard"][1] == 1 else "shard %s " % shards_words([part["shard"]])
-        yield "%sended early (%s): %d of %s" % (shard, part["ended"], part["done"], counted(part["planned"], "case"))
+        files = counted(part["planned"], "file")
+        yield "%sended early (%s): %d of %s looked at" % (shard, part["ended"], part["done"], files)
 
 
 def verdict_words(report, place):
@@ -72,6 +75,11 @@ def total_lines(report, merged):
 
 
 # Groups
+
+def place_words(shown):
+    """Where two texts differ; the lines of the text of a case are others."""
+    return "output line %d, byte %d" % (shown["line"], shown["byte"])
+
 
 def shown_lines(name, shown):
     """A line of both texts."""
@@ -134,7 +142,7 @@ def first_lines(report, group):
     run = case["runs"][group.simulator]
     if group.verdict == DIFFERS:
         yield run["difference"]["words"]
-        yield "%s, line %d, byte %d" % (case["name"], run["shown"]["line"], run["shown"]["byte"])
+        yield "%s, %s" % (case["name"], place_words(run["shown"]))
         yield from shown_lines(name, run["shown"])
     elif group.verdict in (HUNG, CRASHED):
         yield "%s: %s" % (case["name"], failure_words(run))
@@ -175,10 +183,12 @@ def alike_lines(report, every):
         yield from ("  " + name for name in names_shown(alike, every))
 
 
-def left_out_lines(report):
+def left_out_lines(report, every):
     yield from ("left out: %s %s" % (file["name"], file["why"]) for file in report["left_out"])
     if report["unnamed"]:
         yield "left out: %s not named .case, .txt or .csv" % counted(report["unnamed"], "file")
+        if every:
+            yield from ("  " + name for name in report.get("others", []))
 
 
 # The table
@@ -189,8 +199,7 @@ def detail_lines(report, case):
         yield "  no verdict: memcase " + case["fault"]
     for name, run in zip(report["names"], case["runs"]):
         if run["verdict"] == DIFFERS:
-            yield "  %s differs, %s: line %d, byte %d" % (
-                name, run["difference"]["kind"], run["shown"]["line"], run["shown"]["byte"])
+            yield "  %s differs, %s: %s" % (name, run["difference"]["kind"], place_words(run["shown"]))
             yield from ("  " + line for line in shown_lines(name, run["shown"]))
         elif run["verdict"] in (HUNG, CRASHED):
             yield "  %s %s: %s" % (name, run["verdict"], failure_words(run))
@@ -225,7 +234,7 @@ def report_lines(report, every=False, table=False, merged=False):
     """The lines that are printed: blocks, with an empty line between two."""
     blocks = [list(total_lines(report, merged))]
     blocks += [list(group_lines(report, group, every)) for group in groups(report)]
-    blocks += [list(fault_lines(report, every)), list(alike_lines(report, every)), list(left_out_lines(report))]
+    blocks += [list(fault_lines(report, every)), list(alike_lines(report, every)), list(left_out_lines(report, every))]
     if table or every:
         blocks.append(list(table_lines(report, every)))
     for number, block in enumerate(block for block in blocks if block):

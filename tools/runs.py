@@ -28,6 +28,9 @@ POLL_SECONDS = 0.005
 LOOK_SECONDS = 0.25
 SHOWN_BYTES = 72
 
+# Words that a shell takes for itself.
+OPERATORS = "|", ">", ">>", "<", "2>", "&&", "||", ";", "&"
+
 # What a run wrote, at most one byte more than the longest text; HUNG, CRASHED or None;
 # how it failed, in words; the end of what it wrote to standard error; and how long it took.
 Run = namedtuple("Run", "out failure how errors seconds", defaults=(b"", 0.0))
@@ -149,7 +152,11 @@ def run(command, data, seconds):
     if ended and closed:
         return Run(out, None, None, errors, took)
     what = "its output was still open" if ended else "it had not ended"
-    return Run(out, HUNG, "%s after %g seconds" % (what, seconds), errors, took)
+    return Run(out, HUNG, "%s after %s" % (what, seconds_words(seconds)), errors, took)
+
+
+def seconds_words(seconds):
+    return "%g second%s" % (seconds, "" if seconds == 1 else "s")
 
 
 def ending(status):
@@ -185,11 +192,17 @@ def words_of(command):
         raise Misuse("the command %s cannot be split: %s" % (command, error)) from None
     if not words:
         raise Misuse("an empty command")
+    for word in words:
+        if word in OPERATORS:
+            raise Misuse("`%s` is no word of a command that is run without a shell: use sh -c '..'" % word)
     return need_program(words, "")
 
 
 def need_program(words, hint):
+    """The words of a command, where the first is a program that can be run."""
     if shutil.which(words[0]) is None:
+        if os.path.dirname(words[0]) and os.path.isfile(words[0]):
+            raise Misuse("%s is not executable: chmod +x it, or name its interpreter" % words[0])
         raise Misuse("no program %s%s" % (words[0], hint))
     return words
 

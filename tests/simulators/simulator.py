@@ -2,6 +2,8 @@
 """Simulators to try the arbiter with: a right one, and others that fail each in its way.
 
     python3 tests/simulators/simulator.py WAY < FILE.case
+
+Without a way, or with one that is none, it names the ways and ends with 2.
 """
 
 import os
@@ -156,12 +158,18 @@ WAYS = [right, loses_unknown, hangs, hangs_after_text, hangs_with_output_closed,
         complains_without_end, breaks_off, refuses_after_text, reads_nothing, writes_nothing]
 
 
-def main(way):
+def main(words):
+    """Do as the one word says."""
+    ways = {function.__name__.replace("_", "-"): function for function in WAYS}
+    way = words[0] if len(words) == 1 else None
     if way in WRONG:
         with_wrong(*WRONG[way])
+    elif way in ways:
+        ways[way]()
     else:
-        {function.__name__.replace("_", "-"): function for function in WAYS}[way]()
+        print("simulator: WAY is one of: " + ", ".join([*ways, *WRONG]), file=sys.stderr)
+        sys.exit(2)
 
 
 if __name__ == "__main__":
-    main(sys.argv[1])
+    main(sys.argv[1:])
