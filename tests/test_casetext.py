@@ -448,6 +448,9 @@ class Mistakes(unittest.TestCase):
                 ("", 0, "a name, a number or `(` is needed at the end"),
                 ("we &", 4, "a name, a number or `(` is needed at the end"),
                 ("wee", 0, "no variable, condition or node has the name `wee`; did you mean `we`?"),
+                ("We", 0, "no variable, condition or node has the name `We`; did you mean `we`?"),
+                ("r > 3", 2, "no expression goes on with `>`; the operators are ! ~ == != & ^ | and ? :"),
+                ("r + 3", 2, "no expression goes on with `+`; the operators are ! ~ == != & ^ | and ? :"),
                 ("we stall", 3, "an operator is needed before `stall`"),
                 ("(we", 3, "`)` is needed at the end, for `(` in column 11"),
                 ("we)", 2, "an operator is needed before `)`"), ("we && stall", 3, "`&&` is written `&`"),
@@ -482,7 +485,13 @@ class Mistakes(unittest.TestCase):
                                                     "comparison is written `==`"),
                 ("read we address=0", "column 6: `we` should be written as name=value"),
                 ("read enable=1", "`read` needs `address=`"),
-                ("read enable=1 enable=1 address=0", "column 15: `enable` twice"),
+                ("read enable=1 enable=1 address=0", "column 15: `enable` twice; one statement to a line"),
+                ("read enable=1 address=r; read enable=1 address=r", "column 31: `enable` twice; one statement to a "
+                                                                     "line"),
+                ("read enable=1 address=r; check b=1 address=r data=r", "column 32: `read` takes port, enable, "
+                 "address, not `b`; one statement to a line"),
+                ("read enable=1 address=r;", "column 24: no expression goes on with `;`; one statement to a line"),
+                ("read port=1, enable=1 address=r", "column 11: the port must be a number, without a comma, not `1,`"),
                 ("read enable=r address=0", "column 13: `enable` has 2 bits and needs 1"),
                 ("read enable=we,, address=r", "column 16: an item is missing"),
                 ("check b=r address=r data=r", "column 9: `b` is one condition, and `r` has 2 bits"),
@@ -602,7 +611,7 @@ class Traces(unittest.TestCase):
                 ("", "the trace has no header; import --help says what it is"),
                 ("# memory n=2 w=4\n", "the trace has no header; import --help says what it is"),
                 ("kind,address\nread,x\n", "say the address bits and data bits: a line `# memory n=5 w=16` above the "
-                                           "header, or --n and --w"),
+                                           "header"),
                 ("kind,adress\n", "line 1: no column is called `adress`; did you mean `address`?; the columns are "
                                   "kind, port, enable, b, address, data, time, note, or we, waddr, wdata, re and "
                                   "raddr; import --help says more"),
@@ -652,6 +661,67 @@ class Traces(unittest.TestCase):
                 self.assertEqual(str(found.exception), message)
         with self.assertRaisesRegex(casetext.Mistake, "^line 1: `# memory` and --n or --w: give one of them$"):
             text_of(ACCESSES, n=2)
+
+    NO_NAMES = ["z", "Z", "zz", "zzzz", "xxZZ", "z0", "H", "l", "u", "W", "U1", "hl", "UUUU", "true", "False", "HIGH",
+                "low", "HiZ", "unknown", "undef", "dontcare"]
+
+    def no_value(self, header, cells, message):
+        with self.assertRaises(casetext.Mistake) as found:
+            text_of("# memory n=2 w=4\n%s\n%s\n" % (header, cells))
+        self.assertEqual(str(found.exception), "line 3, column " + message)
+
+    def test_values_that_there_are_not(self):
+        """What a simulator writes for a value is no variable: an unknown would be lost."""
+        meant = {"true": "1", "high": "1", "h": "1", "false": "0", "low": "0", "l": "0"}
+        for text in self.NO_NAMES:
+            write = meant.get(text.lower(), "x for unknown")
+            for radix in ("", ":hex", ":dec", ":oct", ":bin"):
+                self.no_value("kind,address,data" + radix, "write,00,%s" % text, "data: `%s` is no value here: write "
+                              "%s, or declare it above the header (`# variable %s[3:0]`) if it is a name" % (
+                                  text, write, text))
+            self.no_value("kind,enable,address", "read,%s,00" % text, "enable: `%s` is no value here: write %s, or "
+                          "declare it above the header (`# variable %s`) if it is a name" % (text, write, text))
+        self.no_value("kind,b,address,data", "check,z,00,x", "b: `z` is no value here: write 0 or 1, or declare it "
+                                                             "above the header (`# variable z`) if it is a name")
+        self.no_value("kind,address,data:hex", "write,00,Fz", "data: `Fz` is no value here: write x for unknown, or "
+                                                              "declare it above the header (`# variable Fz[3:0]`) if "
+                                                              "it is a name")
+        for text in ("UU3F", "wel", "zZ3f"):
+            self.no_value("kind,address,data:hex", "write,00,%s" % text, "data: `%s` is no value here: write x for "
+                          "unknown, or declare it above the header (`# variable %s[3:0]`) if it is a name" % (text, text))
+        for text in ("-", "--", "?", "01-0", "0?", "0z"):
+            self.no_value("kind,address,data", "write,00,%s" % text,
+                          "data: `%s` is no value here: write x for unknown" % text)
+        self.no_value("kind,address,data", 'write,"z,0",x', "address: `z` is no value here: write x for unknown, or "
+                      "declare it above the header (`# variable z[1:0]`) if it is a name")
+
+    def test_digits_of_a_column(self):
+        for radix, text, wrong in (("bin", "01u0", "u"), ("bin", "012", "2"), ("oct", "18", "8"), ("hex", "1g", "g"),
+                                   ("dec", "1a", "a"), ("hex", "0U3f", "U"), ("dec", "12z", "z")):
+            self.no_value("kind,address,data:" + radix, "write,00,%s" % text, "data: `%s` is no digit of a column :%s; "
+                          "x%s is unknown" % (wrong, radix, " alone" if radix == "dec" else ""))
+
+    def test_names_like_values(self):
+        """Names with other letters too, in parentheses and in expressions, are names; and all that are declared."""
+        for text in ("hold", "wel", "we", "lo", "zed", "valid", "truth", "(z)", "(h)"):
+            name = text.strip("()")
+            self.expect("# memory n=2 w=4\nkind,address,data\nwrite,00,%s\n" % text, "variable %s[3:0]" % name,
+                        "write enable=1 address=00 data=%s" % text)
+        for text in self.NO_NAMES:
+            for radix in ("", ":hex", ":dec", ":bin"):
+                self.expect("# memory n=2 w=4\n# variable %s[3:0]\nkind,address,data%s\nwrite,00,%s\n" % (
+                    text, radix, text), "variable %s[3:0]" % text, "write enable=1 address=00 data=%s" % text)
+        self.expect("# memory n=2 w=4\n# let z = we\nkind,enable,address\nread,z,x\n", "variable we", "let z = we",
+                    "read enable=z address=x")
+
+    def test_same_port(self):
+        for header, one, other in (("re,raddr,re0,raddr0", "re", "re0"), ("raddr0,raddr", "raddr", "raddr0")):
+            with self.assertRaises(casetext.Mistake) as found:
+                text_of("# memory n=2 w=4\n%s\n" % header)
+            self.assertEqual(str(found.exception), "line 2: `%s` and `%s` are the same port" % (one, other))
+        self.expect("# memory n=2 w=4\nraddr,raddr1,waddr,wdata,waddr0,wdata0\n00,01,10,x,11,x\n",
+                    "read enable=1 address=00", "read port=1 enable=1 address=01", "write enable=1 address=10 data=x",
+                    "write enable=1 address=11 data=x")
 
     def test_random_tables(self):
         """Whatever stands in the cells, a table is a text that encodes, or a mistake that names a line."""
@@ -780,6 +850,9 @@ class Examples(unittest.TestCase):
             self.assertEqual(casetext.encode(sharper.sharper_text(*sharper.text_of(source), one)), one.case.bytes())
 
 
+UTF8 = "- is no text in UTF-8 (byte 0x%s): save it as UTF-8; a binary case file is named .case"
+
+
 class Commands(unittest.TestCase):
     """The tool on files, of which some are none."""
 
@@ -795,7 +868,15 @@ class Commands(unittest.TestCase):
     def test_no_case(self):
         """A line on standard error that is printable, and status 1."""
         for action, data, message in (
-                ("encode", b"", "the text has no `memory` line"), ("encode", b"\xff\0\1", "- is no text"),
+                ("encode", b"", "the text has no `memory` line"), ("encode", b"\xff\0\1", UTF8 % "ff in line 1"),
+                ("encode", "memory n=1 w=1\n# \xe9".encode("latin-1"), UTF8 % "e9 in line 2"),
+                ("encode", CYCLES.encode(), "line 2: unknown word `re0,raddr0,re2,raddr2,we,waddr,wdata`; a line "
+                 "begins with memory, variable, let, node, write, read, assert or check; it looks like a trace: use "
+                 "import"),
+                ("decode", b"# A text.\nmemory n=1 w=1\n", "the file ends at byte 25, inside node 6; it looks like a "
+                                                           "text: decode reads a case file"),
+                ("import", b"kind,address\nread,x\n", "say the address bits and data bits: a line `# memory n=5 w=16` "
+                                                      "above the header, or --n and --w"),
                 ("encode", b"memory n=1 w=1\nrite\x1b\xc3\xa9\n", "line 2: unknown word `rite\\x1b\\xc3\\xa9`; a line "
                  "begins with memory, variable, let, node, write, read, assert or check"),
                 ("encode", b"memory n=1 w=1\nwrite enable=1 addr", "line 2: `write` needs `address=`"),
@@ -803,7 +884,7 @@ class Commands(unittest.TestCase):
                                                                       "needs 1"),
                 ("decode", b"", "the file ends at byte 0, inside n"),
                 ("import", b"", "the trace has no header; import --help says what it is"),
-                ("import", b"\xff", "- is no text"),
+                ("import", b"\xff", UTF8 % "ff in line 1"),
                 ("import", ACCESSES.encode() + b"wri", "line 3, column kind: `wri` is none of write, read, assert, "
                                                        "check; did you mean `write`?")):
             self.assertEqual(self.run_tool(action, data), (1, b"", "casetext: %s\n" % message))

@@ -40,7 +40,7 @@ from casefile import ONE, X, ZERO, CaseFile
 from diagrams import FALSE, TRUE, Diagrams
 from randomcases import Random, random_bytes, small, tiny, without_refusals
 from randompairs import text_value
-from reference import run_case
+from reference import memcase, run_case
 from runs import Misuse
 from tables import USER_VARIABLE
 
@@ -520,7 +520,8 @@ class Refusals(Files):
             "--nodes", str(needed - 1))
         self.expect("x.txt", text, 3, [
             "line 6  read enable=1 address=0",
-            "        " + refusals.sentence(13), "        give more bytes by --text", "",
+            "        " + refusals.sentence(13), "        the text has room for 20 bytes; give more by --text, or make "
+            "the read a check, which prints one condition", "",
             "nodes: 6 of 5461 (0 and 1, 2 of the file, 2 made); entries: 1 of 2730"], "--text", "20")
         self.expect("x.txt", text, 3, ["with 0 and 1 there are 4 nodes, and there is room for 3",
                                        "give more by --nodes, at most 16384"], "--nodes", "3")
@@ -530,16 +531,68 @@ class Refusals(Files):
         program = model.Program(shlex.split(REFERENCE) + ["--text-bytes", "10"], 60)
         path = self.put("x.txt", self.HEAD + "read enable=1 address=1\n")
         self.assertEqual(show(path, find=lambda *_: (program, None)), (3, "\n".join([
-            "line 6  read enable=1 address=1", "        " + refusals.sentence(13), "        give more bytes by --text",
-            ""]), ""))
+            "line 6  read enable=1 address=1", "        " + refusals.sentence(13),
+            "        the text of the program has no room: give more by --text, which needs the archive, or make the "
+            "read a check, which prints one condition", ""]), ""))
 
     def test_full_text(self):
         """The last line alone does not fit: every answer is shown."""
         text = run_case(casetext.encode(self.HEAD)).text
         status, out, _ = show(self.put("x.txt", self.HEAD), "--text", str(len(text) - 1))
         self.assertEqual(status, 3)
-        self.assertEqual(out.splitlines()[:4], ["line 5  read enable=1 address=0", "        word X (+2 nodes)",
-                                                refusals.sentence(13), "give more bytes by --text"])
+        self.assertEqual(out.splitlines()[:4], [
+            "line 5  read enable=1 address=0", "        word X (+2 nodes)", refusals.sentence(13),
+            "the text has room for %d bytes; give more by --text" % (len(text) - 1)])
+
+    def test_text_of_memcase(self):
+        """The parity of 14 variables does not fit as a word that is read; a check of it does."""
+        head = "memory n=1 w=1\nvariable a[13:0]\nlet odd = %s\nwrite enable=1 address=0 data=odd\n" % " ^ ".join(
+            "a%d" % bit for bit in range(14))
+        status, out, _ = show(self.put("x.txt", head + "read enable=1 address=0\n"))
+        self.assertEqual((status, out.splitlines()[-3:-1]), (3, [
+            "        the text has room for 65536 bytes, as in `memcase`; give more by --text, or make the read a "
+            "check, which prints one condition", ""]))
+        self.assertEqual(show(self.put("x.txt", head + "check b=1 address=0 data=odd\n"))[0], 0)
+
+    def test_vectors_without_room(self):
+        """Two vectors one behind the other need more nodes than where their bits alternate, and a line says so."""
+        text = "memory n=1 w=1\nvariable a[3:0]%s\nvariable b[3:0]%s\nlet same = a == b\n" \
+            "write enable=same address=0 data=1\nread enable=1 address=0\n"
+        apart = text % ("", "")
+        room = run_case(casetext.encode(apart)).record.nodes - 1
+        self.expect("x.txt", apart, 3, [
+            "        there is room for %d nodes" % room, "        give more by --nodes, at most 16384",
+            "        vectors that are compared may need fewer nodes where their bits alternate (`a[4:0] = 8 step 2`)",
+            "", show(self.put("x.txt", apart), "--nodes", str(room))[1].splitlines()[-1]], "--nodes", str(room))
+        self.assertEqual(show(self.put("x.txt", text % (" = 8 step 2", " = 9 step 2")), "--nodes", str(room))[0], 0)
+
+    def full_text(self, more=0):
+        """A text whose case file has 65,536 bytes, and 97 for each access more."""
+        nodes = [(variable, low, 1 - low) for variable in range(8, 14) for low in (0, 1)][:11]
+        return "\n".join(["memory n=7 w=16", *("node %d = (%d %d %d)" % (number, *node)
+                                               for number, node in enumerate(nodes, 2)),
+                          *["write enable=0 address=%s data=%s" % ("0" * 7, "0" * 16)] * (675 + more)])
+
+    def test_longer_than_memcase_reads(self):
+        """Files of 65,536 bytes and of more, beside what the second program says of what `memcase` reads of them."""
+        for more in (0, 1):
+            text = self.full_text(more)
+            data = casetext.encode(text)
+            self.assertEqual(len(data), 65536 + 97 * more)
+            self.assertEqual(memcase(data).startswith("refused"), bool(more))
+            for name, given, what in (("x.txt", text, "its case file"), ("x.case", data, "the file")):
+                status, out, _ = show(self.put(name, given))
+                said = "%s has %d bytes, and `memcase` reads the first 65536: it refuses this case" % (what, len(data))
+                self.assertEqual((status, said in out.splitlines()), (0, bool(more)))
+                self.assertEqual(out.splitlines()[-1].startswith("nodes: "), not more)
+
+    def test_bytes_that_memcase_does_not_read(self):
+        """Of a case of 65,536 bytes with one more behind it `memcase` reads the case alone, and accepts it."""
+        data = casetext.encode(self.full_text()) + b"!"
+        self.assertTrue(memcase(data).endswith("end 0\n"))
+        status, out, _ = show(self.put("x.case", data))
+        self.assertEqual((status, out.splitlines()[-1]), (
+            3, "the file has 65537 bytes, and `memcase` reads the first 65536"))
 
     def test_rows_of_files(self):
         worked = storedcases.named("worked").data
@@ -596,7 +649,18 @@ class Traces(Files):
         table = "# memory n=1 w=1\nkind,port,enable,address,data,b\nwrite,,1,2,1,\n"
         self.expect_misuse("x.csv is no text of a case: line 3, column address: `2` is no word of bits: a decimal word "
                            "is written 0d2", self.put("x.csv", table))
-        self.expect_misuse("x.csv is no text; a case file is named .case", self.put("x.csv", b"\xff"))
+        self.expect_misuse("x.csv is no text in UTF-8 (byte 0xff in line 1): save it as UTF-8; a binary case file is "
+                           "named .case", self.put("x.csv", b"\xff"))
+        self.expect_misuse("x.csv is no text of a case: say the address bits and data bits: a line `# memory n=5 w=16` "
+                           "above the header", self.put("x.csv", "kind,address\nread,x\n"))
+
+    def test_lost_unknown(self):
+        """A check of a word that was written to an unknown address does not hold, and z is not another name for it."""
+        table = "# memory n=1 w=4\nkind,address:dec,data:hex\nwrite,%s,5\ncheck,%s,5\n"
+        self.assertEqual(show(self.put("x.csv", table % ("x", "x")))[0], 1)
+        self.expect_misuse("x.csv is no text of a case: line 3, column address: `z` is no value here: write x for "
+                           "unknown, or declare it above the header (`# variable z`) if it is a name",
+                           self.put("x.csv", table % ("z", "z")))
 
 
 class Pictures(Files):
@@ -657,6 +721,10 @@ class Pictures(Files):
         self.expect_misuse("no condition or variable is named ready; others are `check`, `assert`, LINE and LINE:BIT:h",
                            "examples/buffer.txt", "--svg", "ready")
         self.expect_misuse("-o goes with one of --dot and --svg", "examples/buffer.txt", "-o", "x")
+        path = self.put("x.txt", "memory n=5 w=1\nvariable ra[4:0]\nvariable b[0:0]\nread enable=b address=ra\n")
+        self.expect_misuse("`ra` is a vector: name a bit, ra[4] to ra[0]", path, "--svg", "ra")
+        self.expect_misuse("`b` is a vector: name a bit, b[0]", path, "--dot", "b")
+        self.assertEqual(show(path, "--svg", "ra[4]")[0], 0)
 
     def test_output_file(self):
         path = os.path.join(self.folder, "x.svg")
@@ -730,6 +798,8 @@ class Commands(Files):
     def test_arguments(self):
         self.assertEqual(self.command("--nodes", "x", "y"), (
             2, "", "casetext: argument --nodes: invalid int value: 'x'; --help says more\n"))
+        self.assertEqual(self.command("x.csv", "--n", "5"), (
+            2, "", "casetext: unrecognized arguments: --n 5; --help says more\n"))
         self.assertEqual(self.command("--help")[0], 0)
 
     def test_statuses(self):
@@ -741,7 +811,9 @@ class Commands(Files):
     def test_misuse(self):
         buffer = os.path.join(ROOT, "examples", "buffer.txt")
         self.expect_misuse("cannot read nothing.txt: No such file or directory", self.folder + "/nothing.txt")
-        self.expect_misuse("%s is no text; a case file is named .case" % "x.txt", self.put("x.txt", b"\xff\xfe"))
+        for data, place in ((b"\xff\xfe", "ff in line 1"), ("# a\n# \xe9".encode("latin-1"), "e9 in line 2")):
+            self.expect_misuse("x.txt is no text in UTF-8 (byte 0x%s): save it as UTF-8; a binary case file is named "
+                               ".case" % place, self.put("x.txt", data))
         self.expect_misuse("x.txt is no text of a case: the text has no `memory` line", self.put("x.txt", b""))
         for words, message in (
                 (["--nodes", "1"], "--nodes must be 2 to 16384"), (["--nodes", "16385"], "--nodes must be 2 to 16384"),
@@ -855,7 +927,9 @@ class Archives(Files):
                               find=lambda *_: (self.archive, None))
         self.assertEqual(status, 0)
         self.assertTrue(out.endswith("access 4001  read port=0 enable=1 address=01\n             word X1 (+5 nodes)\n\n"
-                                     "nodes: 7 of 16384 (0 and 1, 0 of the file, 5 made); entries: 4000 of 4000\n"),
+                                     "nodes: 7 of 16384 (0 and 1, 0 of the file, 5 made); entries: 4000 of 4000\n"
+                                     "the file has %d bytes, and `memcase` reads the first 65536: it refuses this case"
+                                     "\n" % len(case.bytes())),
                         out[-200:])
 
 

@@ -87,10 +87,10 @@ from collections import namedtuple
 from calls import ASSERT, CHECK, READ, WRITE
 from casefile import CaseFile, NotACaseFile, VALUES, parse
 from diagrams import FALSE, TRUE, Diagrams, TooLarge
-from endings import OUTPUT_CLOSED, complain, drop_output
+from endings import OUTPUT_CLOSED, Parser, complain, drop_output
 from expressions import LONGEST_NAME, Reader, Vector, nearest
 from tables import USER_VARIABLE, VARIABLES, is_standard
-from words import LETTERS, Mistake, counted, fits, fitted, read_word, shown
+from words import LETTERS, Mistake, counted, fits, fitted, not_utf8, read_word, shown
 
 KIND_NAMES = {WRITE: "write", READ: "read", ASSERT: "assert", CHECK: "check"}
 FIELDS = {
@@ -123,7 +123,8 @@ Source = namedtuple("Source", "case lines variables conditions")
 
 def plain_number(text, most, what, at=None):
     if not NUMBER.match(text):
-        raise Mistake("%s must be a number, not `%s`" % (what, shown(text)), at)
+        hint = ", without a comma" if NUMBER.match(text.strip(",")) else ""
+        raise Mistake("%s must be a number%s, not `%s`" % (what, hint, shown(text)), at)
     digits = text.lstrip("0") or "0"
     if len(digits) > len(str(most)) or int(digits) > most:
         raise Mistake("%s is %s, and at most %d fits the file" % (what, shown(text), most), at)
@@ -375,11 +376,12 @@ class Encoder:
         for match, end in zip(matches, ends):
             key = match[1]
             if key not in wanted:
-                hint = "; a comparison is written `==`" if key in self.places else nearest(key, wanted)
+                hint = "; a comparison is written `==`" if key in self.places else \
+                    "; one statement to a line" if ";" in rest[:match.start()] else nearest(key, wanted)
                 raise Mistake("`%s` takes %s, not `%s`%s" % (word, ", ".join(wanted), shown(key), hint),
                               at + match.start())
             if key in found:
-                raise Mistake("`%s` twice" % key, at + match.start())
+                raise Mistake("`%s` twice; one statement to a line" % key, at + match.start())
             found[key] = rest[match.end():end].rstrip(), at + match.end()
         for key in wanted:
             if key not in found and key not in LEFT_OUT:
@@ -616,8 +618,8 @@ def written(work, name):
         sys.stdout.buffer.write(data)
         sys.stdout.buffer.flush()
         return
-    except UnicodeDecodeError:
-        message = "%s is no text" % name
+    except UnicodeDecodeError as error:
+        message = "%s %s" % (name, not_utf8(error))
     except BrokenPipeError:
         drop_output()
         sys.exit(OUTPUT_CLOSED)
@@ -625,6 +627,35 @@ def written(work, name):
         message = str(error)
     complain("casetext", message)
     sys.exit(1)
+
+
+def encoded(data):
+    """The case file of a text, given as bytes; Mistake otherwise, which says where it is a trace."""
+    text = data.decode("utf-8")
+    try:
+        return encode(text)
+    except Mistake as mistake:
+        import traces
+        if not traces.is_trace(text):
+            raise
+        raise Mistake("%s; it looks like a trace: use import" % mistake) from None
+
+
+def decoded(data):
+    """The text of a case file as bytes; NotACaseFile otherwise, which says where it is a text."""
+    try:
+        return decode(data).encode("ascii")
+    except NotACaseFile as wrong:
+        if not is_text(data):
+            raise
+        raise NotACaseFile("%s; it looks like a text: decode reads a case file" % wrong) from None
+
+
+def is_text(data):
+    """Whether bytes begin as a text does, with its `memory` line."""
+    lines = data.decode("utf-8", "replace").removeprefix("\ufeff").splitlines()
+    words = filter(None, (FIRST_WORD.match(line.split("#", 1)[0]) for line in lines))
+    return next((word[1] for word in words), None) == "memory"
 
 
 def main():
@@ -635,15 +666,15 @@ def main():
     if action == "import":
         import traces
         sys.exit(traces.main(arguments))
-    parser = argparse.ArgumentParser(
+    parser = Parser(
         description=__doc__, formatter_class=argparse.RawDescriptionHelpFormatter, usage="casetext.py ACTION FILE")
     parser.add_argument("action", choices=["encode", "decode", "import", "run"])
     parser.add_argument("file")
     options = parser.parse_args()
     if options.action == "encode":
-        written(lambda data: encode(data.decode("utf-8")), options.file)
+        written(encoded, options.file)
     else:
-        written(lambda data: decode(data).encode("ascii"), options.file)
+        written(decoded, options.file)
 
 
 if __name__ == "__main__":

@@ -52,7 +52,10 @@ def complain(name, message):
 
 
 class Parser(argparse.ArgumentParser):
-    """A parser of arguments whose mistakes are one line."""
+    """A parser of arguments whose mistakes are one line; options are written whole."""
+
+    def __init__(self, **given):
+        super().__init__(allow_abbrev=False, **given)
 
     def error(self, message):
         complain(os.path.splitext(self.prog)[0], "%s; --help says more" % message)

@@ -26,6 +26,8 @@ TOKEN = re.compile(r"(?P<word>[0-9]*'[0-9A-Za-z_]+|0[xbdo][0-9A-Za-z_]+)|(?P<num
                    r"|(?P<name>[A-Za-z_][A-Za-z0-9_]*)|(?P<operator>==|!=|&&|\|\||[!~&^|?:()\[\]])")
 BLANK = re.compile(r"\s*")
 NEVER = {"&&": "&", "||": "|"}
+HINTS = {"=": "; a comparison is written `==`", ";": "; one statement to a line",
+         **dict.fromkeys("<>+-*/%", "; the operators are ! ~ == != & ^ | and ? :")}
 
 # Parentheses and choices that may be open around one place.
 NESTING = 50
@@ -42,8 +44,8 @@ def tokens(text, at):
     while place < len(text):
         match = TOKEN.match(text, place)
         if not match:
-            hint = "; a comparison is written `==`" if text[place] == "=" else ""
-            raise Mistake("no expression goes on with `%s`%s" % (shown(text[place:].split()[0]), hint), at + place)
+            raise Mistake("no expression goes on with `%s`%s" % (
+                shown(text[place:].split()[0]), HINTS.get(text[place], "")), at + place)
         if match.group() in NEVER:
             raise Mistake("`%s` is written `%s`" % (match.group(), NEVER[match.group()]), at + place)
         found.append(Token(match.lastgroup, match.group(), at + place))
@@ -53,7 +55,9 @@ def tokens(text, at):
 
 def nearest(name, names):
     """A hint at the name that is most like one that is not there."""
-    found = difflib.get_close_matches(name, names, 1) if len(name) <= LONGEST_NAME else []
+    found = [other for other in names if other.lower() == name.lower()]
+    if not found and len(name) <= LONGEST_NAME:
+        found = difflib.get_close_matches(name, names, 1)
     return "; did you mean `%s`?" % found[0] if found else ""
 
 

@@ -83,6 +83,13 @@ class Names:
                 return self.diagrams.make(variable, FALSE, TRUE)
         return None
 
+    def bits(self, name):
+        """The names of the bits of a vector that have conditions, the highest first; none where there is no such
+        vector."""
+        found = [VECTOR_BIT.match(one) for one in self.numbers]
+        indices = sorted({int(bit[2]) for bit in found if bit and bit[1] == name}, reverse=True)
+        return ["%s[%d]" % (name, index) for index in indices]
+
     def assignment(self, values):
         """Values of variables in words; a vector is one word, in which `-` is a bit that has no value here."""
         values = dict(values)

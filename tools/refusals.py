@@ -6,6 +6,7 @@ from bisect import bisect_left
 
 from calls import ENTRY_LIMIT, PORTS, READ, WRITE
 from diagrams import FALSE
+from reference import TEXT_BYTES
 from tables import NODE_LIMIT, USER_VARIABLE, is_standard
 
 ROOT = os.path.dirname(os.path.dirname(os.path.abspath(__file__)))
@@ -49,17 +50,20 @@ def file_lines(row, data, place):
 
 class Reasons:
     """What is known of a refused case: its contents; the nodes that there were, from node 0 up, and whether they are
-    all; how many nodes and entries there may be, None where that is not known; names."""
+    all; how many nodes and entries, and bytes of the text, there may be, None where that is not known; names."""
 
-    def __init__(self, case, nodes, all_nodes, capacities, readable):
+    def __init__(self, case, nodes, all_nodes, capacities, text, readable):
         self.case, self.nodes, self.all_nodes, self.capacities = case, nodes, all_nodes, capacities
+        self.text = text
         self.diagrams, self.names = readable.diagrams, readable.names
         self.conditions = self.diagrams.load(nodes[2:]) if is_standard(nodes[2:]) else []
 
     def lines(self, row, access):
         """More lines on a refusal, which may be none; `access` is the refused one, None where none is."""
-        find = {1: self.of_shape, 2: self.of_nodes, 8: self.of_entries, 9: self.of_room, 13: self.of_text}
+        find = {1: self.of_shape, 2: self.of_nodes, 8: self.of_entries, 9: self.of_room}
         find_in_access = {5: self.of_names, 6: self.of_pairs, 7: self.of_address, 14: self.of_port}
+        if row == 13:
+            return [self.of_text(access)]
         if row in find:
             return list(find[row]())
         return list(find_in_access[row](access)) if row in find_in_access and access else []
@@ -86,9 +90,18 @@ class Reasons:
         if self.capacities:
             yield "there is room for %s" % counted(self.capacities[0], "node", "nodes")
             yield more("--nodes", self.capacities[0], NODE_LIMIT)
+        if any("[" in name for name in self.names.variables.values()):
+            yield "vectors that are compared may need fewer nodes where their bits alternate (`a[4:0] = 8 step 2`)"
 
-    def of_text(self):
-        yield "give more bytes by --text"
+    def of_text(self, access):
+        """What to do where the text has no room; `access` is None where its last line alone has none."""
+        if self.text is None:
+            words = "the text of the program has no room: give more by --text, which needs the archive"
+        else:
+            words = "the text has room for %s%s; give more by --text" % (
+                counted(self.text, "byte", "bytes"), ", as in `memcase`" if self.text == TEXT_BYTES else "")
+        return words + (", or make the read a check, which prints one condition" if access and access.kind == READ
+                        else "")
 
     def of_names(self, access):
         for name, nodes in fields(access):

@@ -3,8 +3,8 @@
     python3 tools/casetext.py run FILE [options]
 
 FILE is a text (`.txt`), a trace (`.csv`), a case file (`.case`) or `-`, standard input; one of another name is a case
-file where it has a zero byte.  Each access is shown with its line, and below it what came of it and how many nodes and entries it
-added:
+file where it has a zero byte.  Each access is shown with its line, and below it what came of it and how many nodes and
+entries it added:
 
     entered at place P     a write, or an assert, that became entry P of the update list
     idle                   a write whose enable is 0 under every assignment: nothing is entered
@@ -22,9 +22,10 @@ there, and a plain run in which the check finds a wrong word: how the array star
 may touch the location is taken as, and the word found.  In an assignment a vector is one word, and a bit of it that
 does not matter is `-`.
 
-The model runs through the archive of the C functions, in as much space as `memcase` has or --nodes, --entries and
---text say, once as a whole (md_case) and once access by access; the two must agree.  Where there is no archive or
-no C compiler, `memcase` itself is run, and node counts are not known.
+The model runs through the archive of the C functions, with as many nodes, entries and bytes of text as `memcase` has
+or --nodes, --entries and --text say, once as a whole (md_case) and once access by access; the two must agree.  A case
+file may have any length there; `memcase` reads 65536 bytes of it, and a line below the totals says where a case has
+more.  Where there is no archive or no C compiler, `memcase` itself is run, and node counts are not known.
 
     --dot WHAT, --svg WHAT   write a condition as a graph for Graphviz, or as a picture, and nothing else.  WHAT is
                              a condition's or a variable's name; `check` or `assert`, the condition at the end;
@@ -53,9 +54,11 @@ from casefile import ONE, Access, CaseFile, parse_start
 from diagrams import TRUE, Diagrams, NotACondition, TooLarge
 from endings import Parser, end, need_time, say, standard_input
 from readable import Names, Readable
+from reference import INPUT_BYTES as MEMCASE_BYTES
 from runs import Misuse
 from sharpening import INPUT_BYTES, nodes_of, read_bytes
 from tables import TERMINALS, USER_VARIABLE, is_standard
+from words import not_utf8
 
 SHOWN_LINE = 110
 SHOWN_CHECKS = 5
@@ -93,8 +96,8 @@ def load(name):
     try:
         text, places = traces.read_trace(data) if name.endswith(".csv") else (data.decode("utf-8"), None)
         source = casetext.read_source(text)
-    except UnicodeDecodeError:
-        raise Misuse("%s is no text; a case file is named .case" % shown) from None
+    except UnicodeDecodeError as error:
+        raise Misuse("%s %s" % (shown, not_utf8(error))) from None
     except casetext.Mistake as mistake:
         raise Misuse("%s is no text of a case: %s" % (shown, mistake)) from None
     lines = text.splitlines()
@@ -237,6 +240,7 @@ class Report:
         if running.outcome.row is not None:
             yield from self.refusal_lines()
         yield from self.totals(entries)
+        yield from self.length_lines()
 
     def head(self, number):
         text = self.running.text(number)
@@ -286,8 +290,9 @@ class Report:
             yield self.head(number)
             indent = " " * self.width
         yield indent + refusals.sentence(row)
+        text = running.sizes.text if running.engine.has_calls else None
         reasons = refusals.Reasons(running.case, running.nodes(), running.outcome.calls is not None,
-                                   self.capacities(), self.readable)
+                                   self.capacities(), text, self.readable)
         place = len(beginning(running.case, number).bytes())
         for line in [*reasons.lines(row, access), *refusals.file_lines(row, running.loaded.data, place)]:
             yield indent + line
@@ -309,6 +314,17 @@ class Report:
         given = len(self.running.case.nodes)
         yield "nodes: %d of %d (0 and 1, %d of the file, %d made); entries: %d of %d" % (
             len(calls.nodes), capacity[0], given, len(calls.nodes) - given - 2, entries, capacity[1])
+
+    def length_lines(self):
+        """What `memcase` does with a file that is longer than what it reads.  It refuses the case but where the bytes
+        past those are not the case's."""
+        running = self.running
+        length = len(running.loaded.data)
+        if length > MEMCASE_BYTES:
+            refuses = len(running.case.bytes()) != MEMCASE_BYTES
+            yield "%s has %d bytes, and `memcase` reads the first %d%s" % (
+                "the file" if running.loaded.texts is None else "its case file", length, MEMCASE_BYTES,
+                ": it refuses this case" if refuses else "")
 
 
 # Witnesses
@@ -449,6 +465,10 @@ def chosen_condition(running, what):
     if what[:1].isdigit():
         return condition_at(running, what)
     named = running.names.numbered(what)
+    bits = running.names.bits(what)
+    if named is None and bits:
+        raise Misuse("`%s` is a vector: name a bit, %s" % (
+            shown_word(what), bits[0] if len(bits) == 1 else "%s to %s" % (bits[0], bits[-1])))
     if named is None:
         raise Misuse("no condition or variable is named %s; others are `check`, `assert`, LINE and LINE:BIT:h"
                      % shown_word(what))

@@ -38,9 +38,11 @@ names and expressions, x alone for a field that is all unknown.  Words that have
 `:hex` what is made of the digits 0 to 9, a to f and x is a word, and a name of such letters stands in parentheses.
 
 A name is a variable, and need not be declared: the variables are declared in the order in which they come first, a
-name that is the whole of an address or of data as a vector of that width, r[4:0].  To choose the order, and to have
-every other name refused, declare them above the header; conditions may be named there too.  A line there that begins
-so is a statement of the text, and any other that begins with `#` a comment:
+name that is the whole of an address or of data as a vector of that width, r[4:0].  What a simulator may have written
+for a value is no name unless it is declared: digits of the column with ? or the letters U Z W L H and - of std_logic,
+words as true, low, hiz and unknown; it is refused, and x is the unknown value.  To choose the order, and to have every other
+name refused, declare them above the header; conditions may be named there too.  A line there that begins so is a
+statement of the text, and any other that begins with `#` a comment:
 
     # variable we r[4:0]
     # let hit = we & r == 5
@@ -59,14 +61,20 @@ from collections import namedtuple
 
 import casetext
 from diagrams import TooLarge
+from endings import Parser
 from expressions import nearest, tokens
-from words import LETTERS, Mistake, read_word, shown
+from words import LETTERS, WORD, Mistake, read_word, shown
 
 FIELDS = "port", "enable", "b", "address", "data"
 REMARKS = "time", "note"
 RADIX = {"bin": "b", "oct": "o", "dec": "d", "hex": "h"}
+RADIX_NAMES = {letter: name for name, letter in RADIX.items()}
 DIGITS = {"b": re.compile(r"[01xX_]+\Z"), "o": re.compile(r"[0-7xX_]+\Z"), "d": re.compile(r"[0-9_]+\Z|[xX]\Z"),
           "h": re.compile(r"[0-9a-fA-FxX_]+\Z")}
+# What is no name unless it is declared: digits of a column with z or ?, letters of std_logic, and words.
+COLUMN_DIGITS = {"": "01", "b": "01", "o": "01234567", "d": "0123456789", "h": "0123456789abcdef"}
+MEANT = {"true": "1", "high": "1", "h": "1", "false": "0", "low": "0", "l": "0", "hiz": "x for unknown",
+         "unknown": "x for unknown", "undef": "x for unknown", "dontcare": "x for unknown"}
 CYCLE = re.compile(r"(we|waddr|wdata|re|raddr)([0-9]*)\Z")
 CYCLE_FIELDS = {"we": "enable", "waddr": "address", "wdata": "data", "re": "enable", "raddr": "address"}
 COLUMNS = ["kind", *FIELDS, *REMARKS]
@@ -181,6 +189,9 @@ def cycle_groups(row, columns):
                     kind[0], name, number, next(iter(found.values())).name))
         if kind == "read" and number not in ("", "0", "1", "2", "3"):
             raise mistake(row.line, None, "a read is by port 0 to 3, not %s" % shown(number))
+    if ("read", "") in groups and ("read", "0") in groups:
+        one, other = (next(iter(groups["read", number].values())).name for number in ("", "0"))
+        raise mistake(row.line, None, "`%s` and `%s` are the same port" % (one, other))
     return [Group(kind, (number or "0") if kind == "read" else None, found)
             for (kind, number), found in groups.items()]
 
@@ -321,6 +332,10 @@ def read_word_or_none(text):
 
 # The text
 
+class NoSizes(Mistake):
+    """A trace that does not say address bits and data bits."""
+
+
 class Writer:
     """Makes the text of a table.  Each of its lines is read as it is made, so that the text is one of a case."""
 
@@ -351,8 +366,7 @@ class Writer:
         if said and (n is not None or w is not None):
             raise mistake(said[0][0], None, "`# memory` and --n or --w: give one of them")
         if not said and (n is None or w is None):
-            raise Mistake("say the address bits and data bits: a line `# memory n=5 w=16` above the header, or --n and "
-                          "--w")
+            raise NoSizes("say the address bits and data bits: a line `# memory n=5 w=16` above the header")
         for line, rest in said or [(1, "n=%s w=%s" % (n, w))]:
             self.put("memory " + rest, line)
 
@@ -362,6 +376,7 @@ class Writer:
         if not any(word == "variable" for _, word, _ in said):
             lets = [rest.partition("=") for _, _, rest in said]
             names = Names({LET_NAME.match(name.strip())[0] for name, _, _ in lets if name.strip()})
+            self.need_values(table, names.known)
             for _, _, expression in lets:
                 names.add(expression, 1)
             self.cell_names(names, table)
@@ -369,13 +384,21 @@ class Writer:
                 self.put(declaration, 1)
         for line, word, rest in said:
             self.put("%s %s" % (word, rest), line)
+        self.need_values(table, self.encoder.vectors)
         self.lines.append("")
+
+    def need_values(self, table, known):
+        """Mistake where a cell, or an item of it, is written as a value that there is not, and is no known name."""
+        for line, field, cell in named_cells(table):
+            for item in cell.text.split(","):
+                item = item.strip()
+                reason = item not in known and no_value(item, cell.column, self.encoder.width(field), field)
+                if reason:
+                    raise mistake(line, cell.column.name, reason)
 
     def cell_names(self, names, table):
         """The names of the cells, by rows and from left to right."""
-        cells = [(access.line, cell.column.place, field, cell) for access in table.accesses
-                 for field, cell in access.cells.items() if cell.column and field != "port" and not is_digits(cell)]
-        for line, _, field, cell in sorted(cells, key=lambda entry: entry[:2]):
+        for line, field, cell in named_cells(table):
             try:
                 names.add(cell.text, self.encoder.width(field))
             except Mistake as wrong:
@@ -411,6 +434,43 @@ class Writer:
         return "%d'%s%s" % (self.encoder.width(field), cell.column.radix, cell.text)
 
 
+def named_cells(table):
+    """The cells in which names may stand, by rows and from left to right: each with its line and field."""
+    cells = [(access.line, cell.column.place, field, cell) for access in table.accesses
+             for field, cell in access.cells.items() if cell.column and field != "port" and not is_digits(cell)]
+    return [(line, field, cell) for line, _, field, cell in sorted(cells, key=lambda entry: entry[:2])]
+
+
+def no_value(text, column, width, field):
+    """Why a text that is no known name is no value, or None."""
+    is_name = casetext.DECLARED_NAME.match(text)
+    wrong = None if is_name else wrong_digit(text, column.radix)
+    if wrong:
+        return "`%s` is no digit of a column :%s; x%s is unknown" % (
+            wrong, RADIX_NAMES[column.radix], " alone" if column.radix == "d" else "")
+    if not is_like_value(text.lower(), column.radix):
+        return None
+    meant = "0 or 1" if field == "b" else MEANT.get(text.lower(), "x for unknown")
+    declared = text if width == 1 else "%s[%d:0]" % (text, width - 1)
+    return "`%s` is no value here: write %s%s" % (shown(text), meant, (
+        ", or declare it above the header (`# variable %s`) if it is a name" % shown(declared)) if is_name else "")
+
+
+def wrong_digit(text, radix):
+    """The first digit of a number that a column of a radix has not; None where a text is no number, or has none."""
+    if not radix or LETTERS.match(text) or WORD.match(text) or not (text.isalnum() and text.isascii()):
+        return None
+    return next((digit for digit in text if digit.lower() not in COLUMN_DIGITS[radix] + "x"[:radix != "d"]), None)
+
+
+def is_like_value(text, radix):
+    """Whether a text in small letters is written as values are that are not 0, 1 or x."""
+    letters = set(text)
+    if not letters & set("zuwhl?-"):
+        return text in MEANT
+    return letters <= set(COLUMN_DIGITS[radix] + "x_zuwhl?-") or text in MEANT
+
+
 def is_digits(cell):
     """Whether a cell has only digits of its column's radix."""
     return bool(cell.column and cell.column.radix and DIGITS[cell.column.radix].match(cell.text))
@@ -433,11 +493,29 @@ def text_of(data, n=None, w=None):
     return read_trace(data, n, w)[0]
 
 
+def imported(data, n, w):
+    """The text of a trace as bytes, for `import`, whose options may say the sizes."""
+    try:
+        return text_of(data, n, w).encode("utf-8")
+    except NoSizes as wrong:
+        raise Mistake("%s, or --n and --w" % wrong) from None
+
+
+def is_trace(text):
+    """Whether a text begins as a trace does: with a header of several cells, of which one names a column."""
+    try:
+        rows = (row for row in all_rows(text.removeprefix("\ufeff")) if not row.cells[0].startswith("#"))
+        names = [cell.lower().partition(":")[0].strip() for cell in next(rows, Row(1, [])).cells]
+    except Mistake:
+        return False
+    return len(names) > 1 and any(name in COLUMNS or CYCLE.match(name) for name in names)
+
+
 def main(arguments):
-    parser = argparse.ArgumentParser(prog="casetext.py import", description=__doc__,
-                                     formatter_class=argparse.RawDescriptionHelpFormatter)
+    parser = Parser(prog="casetext.py import", description=__doc__,
+                    formatter_class=argparse.RawDescriptionHelpFormatter)
     parser.add_argument("file", metavar="FILE.csv")
     parser.add_argument("--n", type=int, metavar="N", help="address bits")
     parser.add_argument("--w", type=int, metavar="W", help="data bits")
     options = parser.parse_args(arguments)
-    casetext.written(lambda data: text_of(data, options.n, options.w).encode("utf-8"), options.file)
+    casetext.written(lambda data: imported(data, options.n, options.w), options.file)

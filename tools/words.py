@@ -41,6 +41,12 @@ def shown(text):
     return text if len(text) <= SHOWN_LETTERS else text[:SHOWN_LETTERS] + ".."
 
 
+def not_utf8(error):
+    """What to say, behind a file's name, of bytes that are no text: a UnicodeDecodeError."""
+    return "is no text in UTF-8 (byte 0x%02x in line %d): save it as UTF-8; a binary case file is named .case" % (
+        error.object[error.start], error.object.count(b"\n", 0, error.start) + 1)
+
+
 def counted(number, what):
     return "%d %s%s" % (number, what, "" if number == 1 else "s")
 
