@@ -548,6 +548,8 @@ class Commands(unittest.TestCase):
         self.assertEqual(self.merge(names[0])[0], 2)
         self.assertEqual(self.merge("none.json"),
                          (2, "", "arbiter: cannot read none.json: No such file or directory\n"))
+        self.assertEqual(self.merge(*names, "--html", "2.json"), (
+            2, "", "arbiter: 2.json is a report that is joined: name another file for --html\n"))
         status, out, errors = self.arbitrate(way, "--shard", "9/9")
         self.assertEqual((status, out.splitlines()[0], errors), (0, "0 cases, shard 9/9", ""))
 

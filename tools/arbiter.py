@@ -274,6 +274,9 @@ def need_all(report, options):
 def merge(options):
     """Join reports and tell what is in them; the status to end with."""
     need_files(options)
+    for path in options.reports:
+        if options.html is not None and is_same_file(path, options.html):
+            raise Misuse("%s is a report that is joined: name another file for --html" % options.html)
     report = reports.joined(options.reports, [reports.read_file(path) for path in options.reports])
     tell(report, options, True)
     need_all(report, options)
