@@ -361,7 +361,7 @@ class StrayTexts(Folders):
             file.truncate(1 << 30)
         left_out = [
             "left out: a.txt is no text of a case: line 2: unknown word `rite`",
-            "left out: b\\x1b[2J.txt is not UTF-8 (byte 0xff in line 1): save it as UTF-8; "
+            "left out: b\\x1b[2J.txt is no text in UTF-8 (byte 0xff in line 1): save it as UTF-8; "
             "a case file is named .case",
             "left out: c.case is no file",
             "left out: d.txt is no file",
@@ -419,7 +419,7 @@ class StrayTexts(Folders):
             with self.assertRaises(runs.Misuse) as raised:
                 casefolder.read_case(path)
             self.assertEqual(str(raised.exception),
-                             "is not UTF-8 (%s): save it as UTF-8; a case file is named .case" % where)
+                             "is no text in UTF-8 (%s): save it as UTF-8; a case file is named .case" % where)
 
     def test_nothing_left(self):
         self.put("a.txt", b"memory n=1 w=1\nrite\n")

@@ -850,7 +850,7 @@ class Examples(unittest.TestCase):
             self.assertEqual(casetext.encode(sharper.sharper_text(*sharper.text_of(source), one)), one.case.bytes())
 
 
-UTF8 = "- is no text in UTF-8 (byte 0x%s): save it as UTF-8; a binary case file is named .case"
+UTF8 = "- is no text in UTF-8 (byte 0x%s): save it as UTF-8; a case file is named .case"
 
 
 class Commands(unittest.TestCase):

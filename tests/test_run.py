@@ -649,7 +649,7 @@ class Traces(Files):
         table = "# memory n=1 w=1\nkind,port,enable,address,data,b\nwrite,,1,2,1,\n"
         self.expect_misuse("x.csv is no text of a case: line 3, column address: `2` is no word of bits: a decimal word "
                            "is written 0d2", self.put("x.csv", table))
-        self.expect_misuse("x.csv is no text in UTF-8 (byte 0xff in line 1): save it as UTF-8; a binary case file is "
+        self.expect_misuse("x.csv is no text in UTF-8 (byte 0xff in line 1): save it as UTF-8; a case file is "
                            "named .case", self.put("x.csv", b"\xff"))
         self.expect_misuse("x.csv is no text of a case: say the address bits and data bits: a line `# memory n=5 w=16` "
                            "above the header", self.put("x.csv", "kind,address\nread,x\n"))
@@ -812,7 +812,7 @@ class Commands(Files):
         buffer = os.path.join(ROOT, "examples", "buffer.txt")
         self.expect_misuse("cannot read nothing.txt: No such file or directory", self.folder + "/nothing.txt")
         for data, place in ((b"\xff\xfe", "ff in line 1"), ("# a\n# \xe9".encode("latin-1"), "e9 in line 2")):
-            self.expect_misuse("x.txt is no text in UTF-8 (byte 0x%s): save it as UTF-8; a binary case file is named "
+            self.expect_misuse("x.txt is no text in UTF-8 (byte 0x%s): save it as UTF-8; a case file is named "
                                ".case" % place, self.put("x.txt", data))
         self.expect_misuse("x.txt is no text of a case: the text has no `memory` line", self.put("x.txt", b""))
         for words, message in (

@@ -65,8 +65,9 @@ from judging import Judging, Program, Reduction
 from reportpage import page
 from progress import Progress, Stopping, results
 from reports import AGREED, DIFFERS
-from reporttext import JUDGE, counted, printable, report_lines
+from reporttext import JUDGE, printable, report_lines
 from runs import AllEnded, Misuse, all_ended, end_all, escaped, need_program, need_seconds, words_of
+from words import counted
 
 ROOT = os.path.dirname(os.path.dirname(os.path.abspath(__file__)))
 MEMCASE = "target/bin/memcase"

@@ -6,6 +6,7 @@ from collections import namedtuple
 import casetext
 import traces
 from runs import AllEnded, Misuse, all_ended, escaped
+from words import not_utf8
 
 # The largest case file has 7,000,000 bytes.
 INPUT_BYTES = 1 << 24
@@ -79,8 +80,7 @@ def read_case(path):
     try:
         return casetext.encode(traces.text_of(data) if is_named(path, ".csv") else data.decode("utf-8"))
     except UnicodeDecodeError as error:
-        raise Misuse("is not UTF-8 (byte 0x%02x in line %d): save it as UTF-8; a case file is named .case" % (
-            data[error.start], data.count(b"\n", 0, error.start) + 1)) from None
+        raise Misuse(not_utf8(error)) from None
     except casetext.Mistake as mistake:
         raise Misuse("is no text of a case: " + shortened(str(mistake))) from None
     except (ValueError, RecursionError):

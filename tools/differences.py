@@ -42,7 +42,7 @@ from casetext import KIND_NAMES
 from diagrams import FALSE, Diagrams, NotACondition, TooLarge
 from orders import END_LINE, REFUSAL, Malformed, answer, value
 from reference import INPUT_BYTES, TEXT_BYTES
-from runs import SHOWN_BYTES, cut
+from runs import cut, shown_from
 from sharpening import shown_assignment
 
 SHARPER, LOOSER, OTHER, SPELLED, REFUSED, NO_TEXT = (
@@ -62,8 +62,6 @@ ENDS_BEFORE, GOES_ON = "it ends before this line", "it goes on after its last li
 
 # The row that refuses a case whose text is too long.
 TEXT_ROW = "13"
-
-SHOWN_BEFORE = 24
 
 # What a value admits, in words.
 ADMITTED = {"X": "0 and 1", "1": "1", "0": "0", "neither": "nothing"}
@@ -109,7 +107,7 @@ def shown(raw, start=0):
 def shown_both(right, found):
     """Two lines with the first byte in which they differ within what is shown."""
     common = sum(1 for _ in itertools.takewhile(lambda both: both[0] == both[1], zip(right or b"", found or b"")))
-    start = 0 if common < SHOWN_BYTES - SHOWN_BEFORE else common - SHOWN_BEFORE
+    start = shown_from(common)
     return shown(right, start), shown(found, start)
 
 

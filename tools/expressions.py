@@ -1,16 +1,8 @@
 """Expressions over named conditions, as they stand behind `let` and in the fields of an access.
 
-    ( .. )          parentheses
-    !a  ~a          not a; `!` is of one bit, `~` of each bit of a vector
-    r == 5  r != s  whether two vectors are the same, or are not
-    a & b           and
-    a ^ b           either, and not both
-    a | b           or
-    c ? a : b       a where c holds, else b; c is one bit
-
-The operators above bind more closely than those below them; equal ones are taken from left to right.  The operands are
-names, bits r[3] and parts r[3:0] of vectors, and numbers: 0 and 1, decimal numbers, and the words of words.py.  A
-number has the width of what stands beside it.  Two vectors must have the same width.
+The operators, and how closely they bind, stand in the opening words of casetext.py.  The operands are names, bits r[3]
+and parts r[3:0] of vectors, and numbers: 0 and 1, decimal numbers, and the words of words.py.  A number has the width
+of what stands beside it.  Two vectors must have the same width.
 
 A value here is a tuple of conditions (diagrams.py), the highest bit first, or a number that has no width yet.
 """

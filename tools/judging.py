@@ -16,10 +16,8 @@ from differences import classify
 from reduction import reduce
 from reference import TEXT_BYTES
 from reports import AGREED, DIFFERS, NO_VERDICT, NOT_RUN
-from runs import HUNG, SHOWN_BYTES, AllEnded, all_ended, cut, last_line, run
+from runs import HUNG, AllEnded, all_ended, cut, last_line, run, shown_from
 from sharper import sharper_pairs
-
-SHOWN_BEFORE = 24
 
 # A whole text: a refusal alone, or lines of which the last says how many entries there are.
 WHOLE_NUMBER = rb"(0|[1-9][0-9]*)"
@@ -62,7 +60,7 @@ def shown_difference(right, found, line):
     """A line in which two texts differ, the place of it within what is shown of both."""
     number, one, other = lines_at(right, found, line)
     common = len(os.path.commonprefix([one or b"", other or b""]))
-    start = 0 if common < SHOWN_BYTES - SHOWN_BEFORE else common - SHOWN_BEFORE
+    start = shown_from(common)
     return {"line": number, "byte": common + 1, "right": shown_line(one, start), "found": shown_line(other, start),
             "stopped": len(found) > TEXT_BYTES}
 

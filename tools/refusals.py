@@ -8,6 +8,7 @@ from calls import ENTRY_LIMIT, PORTS, READ, WRITE
 from diagrams import FALSE
 from reference import TEXT_BYTES
 from tables import NODE_LIMIT, USER_VARIABLE, is_standard
+from words import counted
 
 ROOT = os.path.dirname(os.path.dirname(os.path.abspath(__file__)))
 HEADER = os.path.join(ROOT, "include", "mangerday.h")
@@ -41,7 +42,7 @@ def fields(access):
 def file_lines(row, data, place):
     """More lines on a refusal of a file's bytes; its accepted accesses end at a place."""
     if row == 10:
-        yield "it has %s" % counted(len(data), "byte", "bytes")
+        yield "it has %s" % counted(len(data), "byte")
     elif row == 11 and place < len(data):
         yield "byte %d, counted from 0, is %d; 1 is a write, 2 a read, 3 an assert, 4 a check" % (place, data[place])
     elif row == 12:
@@ -88,7 +89,7 @@ class Reasons:
 
     def of_room(self):
         if self.capacities:
-            yield "there is room for %s" % counted(self.capacities[0], "node", "nodes")
+            yield "there is room for %s" % counted(self.capacities[0], "node")
             yield more("--nodes", self.capacities[0], NODE_LIMIT)
         if any("[" in name for name in self.names.variables.values()):
             yield "vectors that are compared may need fewer nodes where their bits alternate (`a[4:0] = 8 step 2`)"
@@ -99,7 +100,7 @@ class Reasons:
             words = "the text of the program has no room: give more by --text, which needs the archive"
         else:
             words = "the text has room for %s%s; give more by --text" % (
-                counted(self.text, "byte", "bytes"), ", as in `memcase`" if self.text == TEXT_BYTES else "")
+                counted(self.text, "byte"), ", as in `memcase`" if self.text == TEXT_BYTES else "")
         return words + (", or make the read a check, which prints one condition" if access and access.kind == READ
                         else "")
 
@@ -155,10 +156,6 @@ def more(option, now, most):
     if now >= most:
         return "that is the most that there may be: a case with fewer accesses or fewer variables needs less"
     return "give more by %s, at most %d" % (option, most)
-
-
-def counted(number, one, many):
-    return "%d %s" % (number, one if number == 1 else many)
 
 
 def why_not_standard(nodes):

@@ -10,9 +10,10 @@ import textwrap
 import orders
 from reports import (AGREED, CRASHED, DIFFERS, HUNG, NO_VERDICT, NOT_RUN, VERDICTS, groups, kind_counts,
                      missing_shards, order_counts, reduced_of, sharper_counts, verdict_counts)
-from reporttext import (counted, detail_lines, end_lines, extent_words, failure_words, first_lines, is_open,
+from reporttext import (detail_lines, end_lines, extent_words, failure_words, first_lines, is_open,
                         place_words, printable, reduced_words, shards_words, shown_lines, title)
 from runs import seconds_words
+from words import counted
 
 CLASSES = {AGREED: "agreed", DIFFERS: "differs", HUNG: "hung", CRASHED: "crashed", NOT_RUN: "notrun",
            NO_VERDICT: "notrun", orders.SWINGS: "differs", orders.FAILED: "crashed"}

@@ -30,7 +30,7 @@ from collections import Counter, namedtuple
 
 import orders
 from differences import LOOSER, NO_TEXT, OTHER, REFUSED, SHARPER, SPELLED
-from runs import CRASHED, HUNG, Misuse, cut
+from runs import CRASHED, HUNG, Misuse, cut, read_at_most
 
 FORMAT = "mangerday arbitration 1"
 
@@ -38,7 +38,6 @@ AGREED, DIFFERS, NOT_RUN, NO_VERDICT = "agreed", "differs", "not run", "-"
 VERDICTS = AGREED, DIFFERS, HUNG, CRASHED
 KINDS = SHARPER, LOOSER, OTHER, SPELLED, REFUSED, NO_TEXT
 ACCESSES = "write", "read", "assert", "check", "end", "case"
-ORDERS = orders.KEPT, orders.SWINGS, orders.NO_CLAIM, orders.FAILED
 
 # The largest report that is read; one of a hundred thousand cases has some 40 MB.
 REPORT_BYTES = 1 << 30
@@ -266,13 +265,7 @@ def write_file(path, text):
 
 def read_file(path):
     """The report of a file."""
-    try:
-        with open(path, "rb") as file:
-            data = file.read(REPORT_BYTES + 1)
-    except OSError as error:
-        raise Misuse("cannot read %s: %s" % (path, error.strerror)) from None
-    if len(data) > REPORT_BYTES:
-        raise Misuse("%s is longer than %d bytes" % (path, REPORT_BYTES))
+    data = read_at_most(path, REPORT_BYTES)
     try:
         report = json.loads(data.decode("utf-8"))
     except (ValueError, RecursionError) as error:

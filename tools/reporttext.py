@@ -4,14 +4,11 @@ import orders
 from reference import TEXT_BYTES
 from reports import (AGREED, CRASHED, DIFFERS, HUNG, NOT_RUN, VERDICTS, ended_parts, groups, kind_counts,
                      missing_shards, order_counts, reduced_of, sharper_counts, verdict_counts)
+from words import counted
 
 JUDGE = "memcase"
 SHOWN_NAMES = 5
 SHOWN_TEXT_LINES = 40
-
-
-def counted(number, what):
-    return "%d %s%s" % (number, what, "" if number == 1 else "s")
 
 
 def printable(line):

@@ -58,7 +58,7 @@ from reference import INPUT_BYTES as MEMCASE_BYTES
 from runs import Misuse
 from sharpening import INPUT_BYTES, nodes_of, read_bytes
 from tables import TERMINALS, USER_VARIABLE, is_standard
-from words import not_utf8
+from words import counted, not_utf8
 
 SHOWN_LINE = 110
 SHOWN_CHECKS = 5
@@ -260,7 +260,7 @@ class Report:
 
     def shown_added(self, added):
         entries, nodes = added
-        words = ["+" + refusals.counted(number, *names) for number, names in
+        words = ["+" + counted(number, *names) for number, names in
                  ((entries, ("entry", "entries")), (nodes, ("node", "nodes"))) if number]
         if not words and nodes is not None:
             words = ["nothing added"]

@@ -27,6 +27,8 @@ POLL_SECONDS = 0.005
 # So long may pass until a run that waits sees that all were ended.
 LOOK_SECONDS = 0.25
 SHOWN_BYTES = 72
+# So much of a line is shown before the place that is meant.
+SHOWN_BEFORE = 24
 
 # Words that a shell takes for itself.
 OPERATORS = "|", ">", ">>", "<", "2>", "&&", "||", ";", "&"
@@ -178,10 +180,27 @@ def escaped(data):
                    for byte in data)
 
 
+def shown_from(place):
+    """From which byte on a line is shown, so that a place of it is within what is shown."""
+    return 0 if place < SHOWN_BYTES - SHOWN_BEFORE else place - SHOWN_BEFORE
+
+
 def cut(data, start):
     """The bytes from `start` on as far as they are shown."""
     end = start + SHOWN_BYTES
     return (".." if start else "") + escaped(data[start:end]) + (".." if end < len(data) else "")
+
+
+def read_at_most(path, most, why=""):
+    """The bytes of a file; Misuse where it cannot be read or is longer, with a reason why none is."""
+    try:
+        with open(path, "rb") as file:
+            data = file.read(most + 1)
+    except OSError as error:
+        raise Misuse("cannot read %s: %s" % (path, error.strerror)) from None
+    if len(data) > most:
+        raise Misuse("%s is longer than %d bytes%s" % (path, most, why))
+    return data
 
 
 def words_of(command):

@@ -41,7 +41,7 @@ from calls import CHECK, READ, WRITE
 from casefile import Access, NotACaseFile, parse
 from diagrams import FALSE, TRUE, Diagrams
 from endings import Parser, end, need_time, say
-from runs import Misuse, run, words_of
+from runs import Misuse, read_at_most, run, words_of
 from tables import USER_VARIABLE, is_standard
 
 # The largest case file has 7,000,000 bytes.
@@ -62,14 +62,7 @@ Change = namedtuple("Change", "access field first second where sharper")
 # What is given
 
 def read_bytes(path):
-    try:
-        with open(path, "rb") as file:
-            data = file.read(INPUT_BYTES + 1)
-    except OSError as error:
-        raise Misuse("cannot read %s: %s" % (path, error.strerror)) from None
-    if len(data) > INPUT_BYTES:
-        raise Misuse("%s is longer than %d bytes: no case and no text of one is" % (path, INPUT_BYTES))
-    return data
+    return read_at_most(path, INPUT_BYTES, ": no case and no text of one is")
 
 
 def read_source(path):

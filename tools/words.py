@@ -43,12 +43,13 @@ def shown(text):
 
 def not_utf8(error):
     """What to say, behind a file's name, of bytes that are no text: a UnicodeDecodeError."""
-    return "is no text in UTF-8 (byte 0x%02x in line %d): save it as UTF-8; a binary case file is named .case" % (
+    return "is no text in UTF-8 (byte 0x%02x in line %d): save it as UTF-8; a case file is named .case" % (
         error.object[error.start], error.object.count(b"\n", 0, error.start) + 1)
 
 
-def counted(number, what):
-    return "%d %s%s" % (number, what, "" if number == 1 else "s")
+def counted(number, one, many=None):
+    """So many of a thing: its word for one, and for many where that is not the same with an s."""
+    return "%d %s" % (number, one if number == 1 else many or one + "s")
 
 
 def read_word(text, at=None):

@@ -10,6 +10,7 @@ use Rattle.conditions.specs.Show.{Alike}
 use Rattle.cases.specs.Case.{zeroed}
 use Rattle.capi_nodes.specs.Contract.{evaluated, freshed, leftText, texted, witnessed}
 
+-- a refused Fresh: record, node words and ports "are untouched"
 unfoldable pub FreshRefused : Type 0
 FreshRefused = (n w : ℕ) (r ws ps : List ℕ) (k : ℕ) → length r ≡ 6 → freshed n w r ws ps .0 ≡ suc k → freshed n w r ws ps ≡ (suc k, r, ws, ps)
 

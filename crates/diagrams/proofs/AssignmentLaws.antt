@@ -9,7 +9,7 @@ use native.Mathlib.Decide.{decLt, ℕ-discrete}
 use native.Mathlib.Nat.{pow-succ', div-div-eq-div-mul}
 use borrow.Author.Tests.{eq-eqb, ne-eqb}
 use Rattle.nodes.specs.Words.{varAt, lowAt, highAt}
-use Rattle.nodes.specs.Standard.{Shape, Standard}
+use Rattle.nodes.specs.Standard.{Standard}
 use Rattle.nodes.proofs.BoolLaws.{or-cases, or-left, or-right}
 use Rattle.diagrams.specs.Value.{value}
 use Rattle.diagrams.specs.Assignment.{bitAt, change, some, numberOf}
@@ -98,5 +98,9 @@ module _ {w : List ℕ} {c : ℕ} (g : Standard w c) (a b : ℕ → Bool) (e : (
           let b1 : highAt w n < n = o .below true in
           rw (value-step g a n (omega arith) h, value-step g b n (omega arith) h, e (varAt w n) (o .small), ih (lowAt w n) (omega arith) (omega arith), ih (highAt w n) (omega arith) (omega arith))
 
-  pub value-small : (n : ℕ) → n < c → value w a n ≡ value w b n
+  value-small : (n : ℕ) → n < c → value w a n ≡ value w b n
   value-small n = small-up-to (suc n) n (omega arith)
+
+-- the number of an assignment gives a node the value that the assignment gives it
+pub number-value : {w : List ℕ} {c : ℕ} → Standard w c → (φ : ℕ → Bool) (n : ℕ) → n < c → value w (bitAt (numberOf φ 64)) n ≡ value w φ n
+number-value g φ n h = value-small g (bitAt (numberOf φ 64)) φ (bit-number 64 φ) n h

@@ -15,7 +15,7 @@ use Rattle.diagrams.specs.Value.{Tree, leaf, branch, eval, treeOf, value
 use Rattle.diagrams.specs.Assignment.{bitAt, change, numberOf}
 use Rattle.diagrams.specs.Witness.{isFalse, path, witnessOf, HoldsThere}
 use Rattle.diagrams.proofs.ValueLaws.{tree-end, tree-node}
-use Rattle.diagrams.proofs.AssignmentLaws.{change-same, change-other, bit-number, value-small}
+use Rattle.diagrams.proofs.AssignmentLaws.{change-same, change-other, number-value}
 use Rattle.diagrams.proofs.CanonLaws.{Reduced, eval-change, tree-reduced}
 
 -- variables below a tree's own are 0
@@ -91,7 +91,7 @@ module _ {w : List ℕ} {c : ℕ} (g : Standard w c) where
     where
       go : Dec (n ≡ 0) → (value w (bitAt (witnessOf w n)) n ≡ true) ⊎ (n ≡ 0)
       go (yes e) = inr e
-      go (no e) = inl (value-small g (bitAt (witnessOf w n)) (path (treeOf w n)) (bit-number 64 (path (treeOf w n))) n h ∙ path-holds (treeOf w n) 0 (tree-reduced g n 0 h (omega arith)) (false-0 n h ∙ ne-eqb n 0 e))
+      go (no e) = inl (number-value g (path (treeOf w n)) n h ∙ path-holds (treeOf w n) 0 (tree-reduced g n 0 h (omega arith)) (false-0 n h ∙ ne-eqb n 0 e))
 
   -- the end of the way
   pub witness-end : (n : ℕ) → n < 2 → witnessOf w n ≡ 0

@@ -21,7 +21,7 @@ use Rattle.diagrams.specs.Assignment.{bitAt, change, numberOf}
 use Rattle.diagrams.specs.Keys.{keyOf, slotOf}
 use Rattle.meets.specs.Meet.{judgeOf, meetsBy, meetsUpTo, meets, Settles, Asks, neither, together, SomeNeither, SomeTogether, Decides, notedIn, withNote, judgeNoted, NotesHold}
 use Rattle.diagrams.proofs.ValueLaws.{value-end, value-0}
-use Rattle.diagrams.proofs.AssignmentLaws.{change-same, bit-number, number-fits, value-small}
+use Rattle.diagrams.proofs.AssignmentLaws.{change-same, number-fits, number-value}
 use Rattle.diagrams.proofs.CanonLaws.{end-same, value-change}
 use Rattle.diagrams.proofs.PartsLaws.{Ready, part-le, part-var, part-value, small-fall, small-ready}
 use Rattle.diagrams.proofs.KeyLaws.{set-or}
@@ -275,10 +275,6 @@ settles-yes b s e = sym (rw e at s)
 
 pub open-settles : (b : Bool) {x : Verdict} → x ≡ Open → Settles x b
 open-settles b e = rw e tt
-
--- each assignment is a 64-bit number's, to a node
-number-value : {w : List ℕ} {c : ℕ} → Standard w c → (φ : ℕ → Bool) (n : ℕ) → n < c → value w (bitAt (numberOf φ 64)) n ≡ value w φ n
-number-value g φ n h = value-small g (bitAt (numberOf φ 64)) φ (bit-number 64 φ) n h
 
 pub neither-decides : {w : List ℕ} {c : ℕ} → Standard w c → (h l : ℕ) → h < c → l < c → Decides (SomeNeither w h l) (neither w h l)
 unfolding neither

@@ -9,7 +9,7 @@ use Rattle.nodes.specs.Standard.{Standard}
 use Rattle.diagrams.specs.Value.{eval, treeOf, value}
 use Rattle.diagrams.specs.Assignment.{bitAt, numberOf}
 use Rattle.show.specs.Show.{show, textOf, Alike}
-use Rattle.diagrams.proofs.AssignmentLaws.{bit-number, number-fits, value-small}
+use Rattle.diagrams.proofs.AssignmentLaws.{number-fits, number-value}
 use Rattle.diagrams.proofs.CanonLaws.{tree-one, node-canon}
 use Rattle.show.proofs.ShowLaws.{show-injective}
 
@@ -22,8 +22,7 @@ module _ {w w′ : List ℕ} {c c′ : ℕ} (g : Standard w c) (g′ : Standard 
   -- the 64-bit numbers are all the assignments that two conditions can tell apart
   alike-all : Alike w n w′ n′ → (φ : ℕ → Bool) → value w φ n ≡ value w′ φ n′
   alike-all e φ =
-      let a = numberOf φ 64 in
-      sym (value-small g (bitAt a) φ (bit-number 64 φ) n h) ∙ e a (number-fits 64 φ) ∙ value-small g′ (bitAt a) φ (bit-number 64 φ) n′ h′
+      sym (number-value g φ n h) ∙ e (numberOf φ 64) (number-fits 64 φ) ∙ number-value g′ φ n′ h′
 
   -- equal values under every assignment: equal texts
   pub text-same : Alike w n w′ n′ → textOf w n ≡ textOf w′ n′
