@@ -507,7 +507,7 @@ class MisuseTest(Folders):
         self.expect_misuse("--names takes as many names as there are simulators", right, right, "--names", "A")
         self.expect_misuse("one simulator or two, each command as one word in quotation marks, and not 3", right, right,
                            right)
-        self.expect_misuse("the following arguments are required: COMMAND; --help has the usage")
+        self.expect_misuse("the following arguments are required: COMMAND; --help says more")
         self.expect_misuse("--shard is I/N with I from 1 to N, as 2/8, and not 3/2", right, "--shard", "3/2")
         self.expect_misuse("no folder %s/none for a.json: make it first" % self.folder, right,
                            "--json", self.folder + "/none/a.json")

@@ -61,18 +61,17 @@ import time
 
 import reports
 from casefolder import case_files, read_case, shortened
+from endings import Parser, complain
 from judging import Judging, Program, Reduction
 from reportpage import page
 from progress import Progress, Stopping, results
 from reports import AGREED, DIFFERS
-from reporttext import JUDGE, printable, report_lines
+from reporttext import JUDGE, report_lines
 from runs import AllEnded, Misuse, all_ended, end_all, escaped, need_program, need_seconds, words_of
 from words import counted
 
 ROOT = os.path.dirname(os.path.dirname(os.path.abspath(__file__)))
 MEMCASE = "target/bin/memcase"
-
-SHOWN_MESSAGE = 600
 
 HANGS = 10
 REDUCE_SECONDS = 60
@@ -325,16 +324,16 @@ def add_shown(parser):
     parser.add_argument("--strict", action="store_true", help="status 2 where a file named as a case was left out")
 
 
-class Parser(argparse.ArgumentParser):
-    """A parser that raises Misuse where words are no options."""
+class OptionParser(Parser):
+    """A parser that raises Misuse where words are no options: those of one simulator and of two are tried."""
 
     def error(self, message):
-        raise Misuse(message + "; --help has the usage")
+        raise Misuse(message + "; --help says more")
 
 
 def run_parser(names):
     """The parser of a run, `--names` followed by so many."""
-    parser = Parser(prog="arbiter.py", description=__doc__, formatter_class=argparse.RawDescriptionHelpFormatter)
+    parser = OptionParser(prog="arbiter.py", description=__doc__, formatter_class=argparse.RawDescriptionHelpFormatter)
     parser.add_argument("folder", metavar="FOLDER")
     parser.add_argument("commands", nargs="+", metavar="COMMAND", help="one or two, each as one word")
     parser.add_argument("--memcase", metavar="COMMAND", help="the judge (%s)" % MEMCASE)
@@ -373,21 +372,11 @@ def run_options(words):
 
 
 def merge_options(words):
-    parser = Parser(prog="arbiter.py merge",
-                    description="Join reports of one arbitration, and print what one run of all cases prints.")
+    parser = OptionParser(prog="arbiter.py merge",
+                          description="Join reports of one arbitration, and print what one run of all cases prints.")
     parser.add_argument("reports", nargs="+", metavar="REPORT.json")
     add_shown(parser)
     return parser.parse_args(words)
-
-
-def complain(message):
-    """One line on standard error; what others wrote in it may be long and have any letters."""
-    line = printable(message)
-    shown = line[:SHOWN_MESSAGE] + (".." if len(line) > SHOWN_MESSAGE else "")
-    try:
-        print("arbiter: " + shown, file=sys.stderr, flush=True)
-    except OSError:
-        pass
 
 
 def work(words, stopping):
@@ -410,7 +399,7 @@ def main():
     try:
         status = work(sys.argv[1:], stopping)
     except (Misuse, OSError) as error:
-        complain(str(error))
+        complain("arbiter", str(error))
         status = 2
     except AllEnded:
         status = 2

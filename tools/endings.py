@@ -46,9 +46,13 @@ def shortened(text):
 
 
 def complain(name, message):
-    """Say on standard error what is wrong."""
-    if sys.stderr is not None:
-        print(shortened(printable("%s: %s" % (name, message))), file=sys.stderr)
+    """Say on standard error what is wrong, where it can be written to."""
+    if sys.stderr is None:
+        return
+    try:
+        print(shortened(printable("%s: %s" % (name, message))), file=sys.stderr, flush=True)
+    except OSError:
+        pass
 
 
 class Parser(argparse.ArgumentParser):
