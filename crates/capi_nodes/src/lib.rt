@@ -109,7 +109,7 @@ pub extern "C" fn md_text(
 ) -> u32
     ensures { λ r. ⌜ leftText r (now (text .exit)) (now (length .exit)) ≡ texted node (now («record» .entry)) (now (nodes .entry)) (now (text .entry)) (now (length .entry)) ⌝ }
 {
-    let fields = record_words::fields_of(record);
+    let fields = record_words::record_of(record).fields();
     let row = node_calls::evaluate_row(fields, nodes, node);
     if row != 0 {
         return row;
@@ -133,7 +133,7 @@ pub extern "C" fn md_witness(
 ) -> u32
     ensures { λ r. ⌜ (r, now (assignment .exit)) ≡ witnessed node (now («record» .entry)) (now (nodes .entry)) (now (assignment .entry)) ⌝ }
 {
-    let fields = record_words::fields_of(record);
+    let fields = record_words::record_of(record).fields();
     let k = node_calls::evaluate_row(fields, nodes, node);
     if k != 0 {
         return k;

@@ -266,7 +266,7 @@ fn formula_result(d: FormulaDone) -> FormulaResult
 
 impl Record {
     // What the crates below work on.
-    fn fields(self) -> Fields
+    pub fn fields(self) -> Fields
         ensures { λ f. ⌜ f ≡ fieldsOf self ⌝ }
     {
         Fields {

@@ -1,10 +1,8 @@
 // The record of a memory as six words.
 ghost use mathlib.Core.Path.{_≡_};
 ghost use Rattle.memory.specs.Contract.{recordOf};
-ghost use Rattle.rows.specs.Contract as rows;
 ghost use Rattle.record_words.specs.Words.{recordIn, wordsOf};
 use memory::Record;
-use rows::Fields;
 
 // The record that six words are.
 pub fn record_of(words: &[u32; 6]) -> Record
@@ -25,18 +23,4 @@ pub fn put_record(words: &mut [u32; 6], r: Record)
     ensures { λ _. ⌜ now (words .exit) ≡ wordsOf (recordOf r) ⌝ }
 {
     *words = [r.n, r.w, r.count, r.entries, r.asserted, r.checked];
-}
-
-// Its fields, for what is asked of a node.
-pub fn fields_of(words: &[u32; 6]) -> Fields
-    ensures { λ r. ⌜ rows.recordOf r ≡ recordIn (now (words .entry)) ⌝ }
-{
-    Fields {
-        n: words[0],
-        w: words[1],
-        count: words[2],
-        entries: words[3],
-        asserted: words[4],
-        checked: words[5],
-    }
 }
