@@ -15,6 +15,7 @@ read-by-hand =
       arrow-closed = refl;
       zeros = refl;
       nine = refl;
+      long = refl;
       nothing = refl;
       only-spaces = refl;
       arrow-outside = refl;

@@ -1,5 +1,6 @@
 pub mod ExampleLaws
 pub mod OrderLaws
+pub mod NumberLaws
 pub mod Spelling
 pub mod Placing
 pub mod PlainReader

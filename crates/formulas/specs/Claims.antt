@@ -6,9 +6,14 @@ use mathlib.Core.List.{List, [], _++_}
 use Prim.Native.Nat.{ℕ, suc, _≤_, _<_, max}
 use lib.Dec.{T}
 use lib.ListN.{length}
-use Rattle.formulas.specs.Language.{Tree, predicate, next, both, when, grouped, Text, listed, ordered, only, Rising}
+use Rattle.text.specs.Decimal.{valueOf, AllDigits}
+use Rattle.formulas.specs.Language.{Tree, predicate, next, both, when, grouped, Number, Text, listed, ordered, only, Rising}
 use Rattle.formulas.specs.Reading.{Limits, fine, wrong, judgeText}
 use Rattle.formulas.specs.Faults.{Wrong}
+
+-- "a number is decimal digits", one or more, and what they say, as a sum of powers of ten
+unfoldable pub NumberExactly : Type 0
+NumberExactly = (ds : List ℕ) (n : ℕ) → Number ds n ↔ ((1 ≤ length ds) × AllDigits ds × (n ≡ valueOf ds))
 
 -- how many "parentheses, N and arrows" are open around the place of the tree that has most of them
 abbrev pub depth : Tree → ℕ

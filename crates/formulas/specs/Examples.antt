@@ -1,5 +1,6 @@
 -- Request 5: texts read by hand. Predicates below 20 and nodes below 3 are good.
 use mathlib.Core.Path.{_≡_}
+use mathlib.Core.Bool.{true}
 use mathlib.Core.List.{List, [], _∷_, _++_}
 use Prim.Native.Nat.{ℕ, zero, suc}
 use lib.Dec.{ltb}
@@ -8,6 +9,10 @@ use Rattle.formulas.specs.Reading.{Limits, Verdict, fine, wrong, judgeTe
 
 abbrev pub few : Limits
 few = record { predicates = λ n. ltb n 20; nodes = λ n. ltb n 3 }
+
+-- every number is good
+abbrev pub every : Limits
+every = record { predicates = λ n. true; nodes = λ n. true }
 
 -- the bytes b, n times, before r
 abbrev pub again : ℕ → List ℕ → List ℕ → List ℕ
@@ -50,6 +55,8 @@ pub record ByHand : Type 0 where
   pub zeros : judgeText few (109 ∷ 48 ∷ 48 ∷ 49 ∷ 57 ∷ []) ≡ fine (predicate 19) []
   -- `m9`
   pub nine : judgeText few (109 ∷ 57 ∷ []) ≡ fine (predicate 9) []
+  -- `b256->m4294967295`
+  pub long : judgeText every (98 ∷ 50 ∷ 53 ∷ 54 ∷ 45 ∷ 62 ∷ 109 ∷ 52 ∷ 50 ∷ 57 ∷ 52 ∷ 57 ∷ 54 ∷ 55 ∷ 50 ∷ 57 ∷ 53 ∷ []) ≡ fine (when 256 (predicate 4294967295)) []
   -- Outside the language: 15, at the first byte with which no text goes on, or at the end
   -- ``
   pub nothing : judgeText few [] ≡ wrong 15 []

@@ -1,12 +1,14 @@
 -- A number's decimals: how they are made, and that they tell the number.
-use Prim.Native.Nat.{ℕ, zero, suc, _+_, _*_, _-_, _/_, _%_, _≤_, _<_}
+use Prim.Native.Nat.{ℕ, zero, suc, _+_, _*_, _-_, _/_, _%_, _^_, _≤_, _<_}
 use mathlib.Core.Path.{_≡_, refl, ap, sym, _∙_}
 use mathlib.Core.List.{List, [], _∷_, _++_, append-assoc, append-nil}
 use mathlib.Core.Bool.{Bool, true, false, cond}
+use native.Mathlib.Nat.{mul-left-comm, pow-succ'}
 use native.Mathlib.Omega.{arith}
 use borrow.Author.Tests.{lt-ltb, le-ltb, ltb-true, ltb-false, le-leb, lt-leb}
 use lib.Dec.{ltb, leb}
-use Rattle.text.specs.Decimal.{digits, decimal}
+use lib.ListN.{length, length-append}
+use Rattle.text.specs.Decimal.{digits, decimal, valueOf, AllDigits, DecimalExactly}
 
 -- What holds of each number below ten, and of any other where it holds of its tenth, holds of every number.
 module _ (P : ℕ → Type 0) (small : (x : ℕ) → x < 10 → P x) (large : (x : ℕ) → 10 ≤ x → P (x / 10) → P x) where
@@ -98,3 +100,52 @@ decimal-then x y b c r s g h e =
     let t = decimal-tells x y (b ∷ r) (c ∷ s) (number-stops x b r g) (number-stops y c s h) e in
     let u : b ∷ r ≡ c ∷ s = t .1 in
     (t .0, cc, cc)
+
+-- One digit more: what stood before it is worth ten times as much.
+pub value-more : (ds : List ℕ) (d : ℕ) → valueOf (ds ++ d ∷ []) ≡ 10 * valueOf ds + (d - 48)
+unfolding valueOf
+value-more [] d = omega arith
+value-more (c ∷ ds) d =
+    let longer : length (ds ++ d ∷ []) ≡ suc (length ds) = length-append ds (d ∷ []) ∙ omega arith in
+    let tens : 10 ^ length (ds ++ d ∷ []) ≡ 10 * 10 ^ length ds = ap (λ (k : ℕ). 10 ^ k) longer ∙ pow-succ' 10 (length ds) in
+    let first : (c - 48) * 10 ^ length (ds ++ d ∷ []) ≡ 10 * ((c - 48) * 10 ^ length ds) = ap (λ (k : ℕ). (c - 48) * k) tens ∙ mul-left-comm (c - 48) 10 (10 ^ length ds) in
+    omega (arith, first, value-more ds d)
+
+digits-more : (ds : List ℕ) (d : ℕ) → AllDigits ds → 48 ≤ d → d < 58 → AllDigits (ds ++ d ∷ [])
+digits-more [] d A l h = (l, h, tt)
+digits-more (c ∷ ds) d A l h = (A .0, A .1, digits-more ds d (A .2) l h)
+
+decimal-digits : (x : ℕ) → AllDigits (decimal x)
+decimal-digits =
+    by-tenths (λ x. AllDigits (decimal x))
+    (λ x l. rw (decimal-small x l) (omega arith, omega arith, tt))
+    (λ x l k. rw (decimal-large x l) (digits-more (decimal (x / 10)) (48 + x % 10) k (omega arith) (omega arith)))
+
+decimal-some : (x : ℕ) → 1 ≤ length (decimal x)
+decimal-some =
+    by-tenths (λ x. 1 ≤ length (decimal x))
+    (λ x l. rw (decimal-small x l) (omega arith))
+    (λ x l k. rw (decimal-large x l, length-append) (omega arith))
+
+-- The digits say the number.
+pub decimal-value : (x : ℕ) → valueOf (decimal x) ≡ x
+unfolding valueOf
+decimal-value =
+    by-tenths (λ x. valueOf (decimal x) ≡ x)
+    (λ x l. rw (decimal-small x l) (omega arith))
+    (λ x l k. rw (decimal-large x l, value-more (decimal (x / 10)) (48 + x % 10), k) (omega arith))
+
+zero-alone : (x : ℕ) (rest : List ℕ) → decimal x ≡ 48 ∷ rest → rest ≡ []
+zero-alone =
+    by-tenths (λ x. (rest : List ℕ) → decimal x ≡ 48 ∷ rest → rest ≡ [])
+    (λ x l rest e. let t : (48 + x) ∷ [] ≡ 48 ∷ rest = rw (decimal-small x l) at e in cc)
+    (λ x l k rest e. absurd (no-leading-zero x rest (omega arith) e))
+
+pub decimal-exactly : DecimalExactly
+unfolding DecimalExactly
+decimal-exactly x = record { digits = decimal-digits x; some = decimal-some x; value = decimal-value x; alone = zero-alone x }
+
+-- "4294967295": the greatest number that is printed
+pub ten-digits : decimal 4294967295 ≡ 52 ∷ 50 ∷ 57 ∷ 52 ∷ 57 ∷ 54 ∷ 55 ∷ 50 ∷ 57 ∷ 53 ∷ []
+unfolding decimal digits
+ten-digits = refl
