@@ -5,7 +5,7 @@ pub mod CaseLaws
 pub mod AcceptedLaws
 pub mod RefusedLaws
 pub mod PrintLaws
-pub mod WriteLaws
+pub mod LineLaws
 pub mod CountLaws
 pub mod NumberLaws
 pub mod ExampleLaws

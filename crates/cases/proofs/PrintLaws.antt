@@ -4,12 +4,12 @@ use mathlib.Core.List.{List, _++_}
 use Prim.Native.Nat.{ℕ, _+_, _≤_}
 use native.Mathlib.Omega.{arith}
 use native.Mathlib.Nat.{zero-add}
-use lib.ListN.{length, take, drop, length-replicate}
+use lib.ListN.{length, take, drop}
 use lib.Seq.{take-append-seam}
 use Rattle.text.proofs.TextLaws.{appended-fits}
 use Rattle.lines.specs.Lines.{refusedLine}
 use Rattle.model.specs.Record.{Record}
-use Rattle.cases.specs.Case.{Answered, accepts, refuses, zeroed, caseOf, shown, outputOf, bytesOf}
+use Rattle.cases.specs.Case.{Answered, accepts, refuses, caseOf, shown, outputOf, bytesOf}
 use Rattle.cases.specs.Claims.{callsIn, stateIn, linesOf, CaseText, CaseRefused, CasePrints}
 use Rattle.cases.proofs.CaseLaws.{case-text}
 use Rattle.cases.proofs.RefusedLaws.{case-refused-after}
@@ -31,11 +31,11 @@ module _ (file words list text : List ℕ) where
   refused-prints number after e h =
       let R = case-refused-after file words list text number after e in
       let l = refusedLine number after in
-      let fits : 0 + length l ≤ length (zeroed text) = omega (arith, h, length-replicate {A = ℕ} (length text) 0) in
-      ap (λ (a : Answered). bytesOf (shown a (caseOf file words list text .text))) e
-      ∙ ap (λ (b : List ℕ). bytesOf (shown (refuses number after) b)) (R .bytes)
-      ∙ ap bytesOf (appended-fits l (zeroed text) 0 fits)
-      ∙ ap (λ (i : ℕ). take i (l ++ drop (0 + length l) (zeroed text))) (zero-add (length l))
+      let b = caseOf file words list text .text in
+      let fits : 0 + length l ≤ length b = omega (arith, h, R .bytes .size) in
+      ap (λ (a : Answered). bytesOf (shown a b)) e
+      ∙ ap bytesOf (appended-fits l b 0 fits)
+      ∙ ap (λ (i : ℕ). take i (l ++ drop (0 + length l) b)) (zero-add (length l))
       ∙ take-append-seam l _
 
 pub case-prints : CasePrints

@@ -6,7 +6,7 @@ use mathlib.Core.Logic.{_⊎_, inl, inr}
 use Prim.Native.Nat.{ℕ, zero, suc, _+_, _<_, _≤_}
 use native.Mathlib.Omega.{arith}
 use lib.Dec.{ltb}
-use lib.ListN.{length, getD}
+use lib.ListN.{length, getD, length-replicate, getD-replicate}
 use borrow.Author.Tests.{ltb-true, ltb-false}
 use Rattle.text.specs.Text.{Out, growing, appended}
 use Rattle.text.proofs.TextLaws.{appended-append, appended-is-full}
@@ -18,8 +18,8 @@ use Rattle.reading.specs.Accesses as accesses
 use Rattle.reading.specs.Sections.{Sections, ready, sections, accessesIn, firstAt}
 use Rattle.reading.specs.Sections as sections
 use Rattle.reading.proofs.SectionLaws.{sections-read}
-use Rattle.cases.specs.Case.{lineOf, Running, Next, stops, one, Ended, ended, stopped, last, after, rest, afterSections, whole, refuses, closed, caseOf}
-use Rattle.cases.specs.Claims.{callAt, callsFrom, endFrom, stateIn, linesOf, SectionsReady, StandsAt, AllStand, accessLines, firstCalls, RefusedAt, missing, refusedCall, lineOver, bytesLeft, endOver, RefusedAfter, CaseRefused}
+use Rattle.cases.specs.Case.{lineOf, Running, Next, stops, one, Ended, ended, stopped, last, after, rest, afterSections, whole, refuses, zeroed, closed, caseOf}
+use Rattle.cases.specs.Claims.{callAt, callsFrom, endFrom, stateIn, linesOf, SectionsReady, StandsAt, AllStand, accessLines, firstCalls, RefusedAt, missing, refusedCall, lineOver, bytesLeft, endOver, Zeroed, RefusedAfter, CaseRefused}
 use Rattle.cases.proofs.LastLaws.{last-left, last-printed}
 use Rattle.cases.proofs.WayLaws.{callHere, afterOne, StandsHere, answerHere, Way, goesOn, isOver, isRefusedBy, isMissing, way}
 use Rattle.cases.proofs.CaseLaws.{same-sizes, start, begun}
@@ -169,6 +169,9 @@ module _ (file words list text : List ℕ) where
           (rest-stopped file (accessesIn file) 0 (start file words list text) r k refl (sym (begun file words list text q) ∙ e))
       go (sections.refused a) q e = let u : r ≡ a = cc in let z : k ≡ 0 = cc in in-sections (q ∙ ap sections.refused (sym u)) z
 
+zeroed-zeros : (l : List ℕ) → Zeroed l (zeroed l)
+zeroed-zeros l = record { size = length-replicate {A = ℕ} (length l) 0; zeros = λ i h. getD-replicate {A = ℕ} (length l) i 0 0 h }
+
 pub case-refused-after : CaseRefused
 unfolding CaseRefused caseOf
 case-refused-after file words list text number k e = go (whole file words list text) refl e
@@ -178,4 +181,4 @@ case-refused-after file words list text number k e = go (whole file words list t
     go (stopped a b) q e =
         let u : stopped a b ≡ stopped number k = cc in
         let S = whole-stopped file words list text number k (q ∙ u) in
-        rw q (record { nodes = refl; entries = refl; bytes = refl; few = S .few; stand = S .stand; accepted = S .accepted; fits = S .fits; reason = S .reason })
+        rw q (record { nodes = zeroed-zeros words; entries = zeroed-zeros list; bytes = zeroed-zeros text; few = S .few; stand = S .stand; accepted = S .accepted; fits = S .fits; reason = S .reason })

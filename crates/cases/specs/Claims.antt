@@ -1,27 +1,27 @@
 -- What is claimed of every case: when it is accepted; of an accepted one, its text, demand 3 and the count of its entries; of a refused one, its number and K.
 use mathlib.Core.Path.{_≡_}
 use mathlib.Core.Logic.{_↔_, _⊎_}
-use mathlib.Core.Bool.{Bool, false}
+use mathlib.Core.Bool.{Bool, true, false}
 use mathlib.Core.List.{List, [], _∷_, _++_}
 use Prim.Native.Nat.{ℕ, zero, suc, _+_, _^_, _<_, _≤_}
 use lib.Dec.{T}
 use lib.ListN.{length, getD, drop}
 use Rattle.conditions.specs.Value.{value}
 use Rattle.conditions.specs.Assignment.{bitAt}
-use Rattle.lines.specs.Lines.{writeLine, idleLine, endLine, refusedLine}
+use Rattle.lines.specs.Lines.{writeLine, idleLine, readLine, assertLine, checkLine, endLine, refusedLine}
 use Rattle.model.specs.Record.{Record, freshPorts}
-use Rattle.model.specs.Step.{State, write, Call, access, Answer, refused, isRefused, step, run, AllAccepted}
+use Rattle.model.specs.Step.{State, Access, write, read, assert, check, Call, access, Answer, refused, isRefused, answerWords, Result, step, run, AllAccepted}
 use Rattle.model.specs.Array.{Run, observed, Allowed}
 use Rattle.model.specs.Claims.{fed, events, Exactly}
 use Rattle.model.specs.Table.{NeverOne, MayBeOne}
-use Rattle.model.specs.Count.{entryCount}
+use Rattle.model.specs.Count.{entryCount, DiffersUnder}
 use Rattle.reading.specs.Bytes.{numbersAt}
 use Rattle.reading.specs.Kinds.{sizeOf}
 use Rattle.reading.specs.Accesses.{found, kindAt, nodesAt, endOf, accessAt, portIn}
 use Rattle.reading.specs.Accesses as accesses
 use Rattle.reading.specs.Sections.{nodesIn, accessesIn, firstAt, recordIn, stored, ready, sections}
 use Rattle.reading.specs.Sections as sections
-use Rattle.cases.specs.Case.{callOf, lineOf, accepts, refuses, Case, zeroed, caseOf, outputOf, bytesOf}
+use Rattle.cases.specs.Case.{callOf, lineOf, accepts, refuses, Case, caseOf, outputOf, bytesOf}
 
 -- the call whose kind byte stands at a place, for n and w
 abbrev pub callAt : List ℕ → ℕ → ℕ → ℕ → Call
@@ -57,13 +57,43 @@ accessLines cs s = linesThen (λ t. []) cs s
 abbrev pub linesOf : List Call → State → List ℕ
 linesOf cs s = linesThen (λ t. endLine (t .rec .entries)) cs s
 
+-- an access done after a state, and its line
+abbrev pub doneAfter : Access → State → Result
+doneAfter c s = step (access c) s
+
+abbrev pub lineAfter : Access → State → List ℕ
+lineAfter c s = lineOf (doneAfter c s .answer) (doneAfter c s .after)
+
+abbrev pub IsAccepted : Access → State → Type 0
+IsAccepted c s = isRefused (doneAfter c s .answer) ≡ false
+
 -- 02: the line of an accepted write says `write idle` exactly where its enable is 0 under every assignment, and else its place, the count of entries before it
 pub record WriteSays (c a d : List ℕ) (s : State) : Type 0 where
-  pub idles : (lineOf (step (access (write c a d)) s .answer) (step (access (write c a d)) s .after) ≡ idleLine) ↔ NeverOne s c
-  pub enters : (lineOf (step (access (write c a d)) s .answer) (step (access (write c a d)) s .after) ≡ writeLine (s .rec .entries)) ↔ MayBeOne s c
+  pub idles : (lineAfter (write c a d) s ≡ idleLine) ↔ NeverOne s c
+  pub enters : (lineAfter (write c a d) s ≡ writeLine (s .rec .entries)) ↔ MayBeOne s c
 
 unfoldable pub WriteLine : Type 0
-WriteLine = (c a d : List ℕ) (s : State) → isRefused (step (access (write c a d)) s .answer) ≡ false → WriteSays c a d s
+WriteLine = (c a d : List ℕ) (s : State) → IsAccepted (write c a d) s → WriteSays c a d s
+
+-- that of an accepted assert says `assert entered` exactly where under some assignment with b its data differs from the look, and else `assert kept`; then the assert condition as it left it
+abbrev pub assertedAfter : Bool → ℕ → List ℕ → List ℕ → State → List ℕ
+assertedAfter enters b a d s = let t = doneAfter (assert b a d) s .after in assertLine (t .words) enters (t .rec .asserted)
+
+pub record AssertSays (b : ℕ) (a d : List ℕ) (s : State) : Type 0 where
+  pub enters : (lineAfter (assert b a d) s ≡ assertedAfter true b a d s) ↔ ((k : ℕ) × (k < 2 ^ 64) × DiffersUnder s b a d k)
+  pub keeps : (lineAfter (assert b a d) s ≡ assertedAfter false b a d s) ↔ ((k : ℕ) → k < 2 ^ 64 → DiffersUnder s b a d k → ⊥)
+
+unfoldable pub AssertLine : Type 0
+AssertLine = (b : ℕ) (a d : List ℕ) (s : State) → IsAccepted (assert b a d) s → AssertSays b a d s
+
+-- that of an accepted read shows its answer words, and that of an accepted check the check condition, each as it left them
+unfoldable pub ReadLine : Type 0
+ReadLine = (p : ℕ) (e a out : List ℕ) (s : State) → IsAccepted (read p e a out) s
+    → let x = doneAfter (read p e a out) s in lineAfter (read p e a out) s ≡ readLine (x .after .words) (answerWords (x .answer) out)
+
+unfoldable pub CheckLine : Type 0
+CheckLine = (b : ℕ) (a d : List ℕ) (s : State) → IsAccepted (check b a d) s
+    → let x = doneAfter (check b a d) s in lineAfter (check b a d) s ≡ checkLine (x .after .words) (x .after .rec .checked)
 
 -- the sections of a file are read
 abbrev pub SectionsReady : List ℕ → List ℕ → Type 0
@@ -129,12 +159,17 @@ pub data RefusedAt (file words list text : List ℕ) (number k : ℕ) : Type 0 w
   bytesLeft : k ≡ accessesIn file → byteAfter file k < length file → number ≡ 12 → RefusedAt file words list text number k
   endOver : k ≡ accessesIn file → length file ≤ byteAfter file k → length text < length (linesOf (callsIn file) (stateIn file words list)) → number ≡ 13 → RefusedAt file words list text number k
 
+-- every word is 0, of as many as there were
+pub record Zeroed (before now : List ℕ) : Type 0 where
+  pub size : length now ≡ length before
+  pub zeros : (i : ℕ) → i < length before → getD now i 0 ≡ 0
+
 -- a case that refused by a number after K: it "zeroes node store, list and text buffer"; K are "the accesses already printed": they stand in the file, their calls are accepted, and
 -- their lines fit; and the number is that of the sections, K being 0, or of what comes after the K accesses
 pub record RefusedAfter (file words list text : List ℕ) (number after : ℕ) (c : Case) : Type 0 where
-  pub nodes : c .words ≡ zeroed words
-  pub entries : c .list ≡ zeroed list
-  pub bytes : c .text ≡ zeroed text
+  pub nodes : Zeroed words (c .words)
+  pub entries : Zeroed list (c .list)
+  pub bytes : Zeroed text (c .text)
   pub few : after ≤ accessesIn file
   pub stand : AllStand file (getD file 0 0) (getD file 1 0) (firstAt file) after
   pub accepted : AllAccepted (firstCalls file after) (stateIn file words list)

@@ -42,6 +42,11 @@ assert-first false false r s p = (refl, after (assertWord false) p)
 assert-first true false r s p = absurd (omega (arith, heads (tails (tails (tails (tails (tails (tails (tails p)))))))))
 assert-first false true r s p = absurd (omega (arith, heads (tails (tails (tails (tails (tails (tails (tails p)))))))))
 
+-- the line of an assert that is entered is not that of one that is kept
+pub assert-tells : (w w′ : List ℕ) (e e′ : Bool) (n n′ : ℕ) → assertLine w e n ≡ assertLine w′ e′ n′ → e ≡ e′
+unfolding assertLine
+assert-tells w w′ e e′ n n′ q = assert-first e e′ (textOf w n ++ 10 ∷ []) (textOf w′ n′ ++ 10 ∷ []) (rw (append-assoc, append-assoc) at q) .0
+
 pub assert-lines : AssertLines
 unfolding AssertLines assertLine
 assert-lines w w′ c c′ n n′ e e′ p p′ = (tell, λ a. rw (a .0, alike-text p p′ (a .1)))
