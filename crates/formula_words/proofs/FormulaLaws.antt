@@ -4,7 +4,8 @@ use mathlib.Core.List.{List, []}
 use Prim.Native.Nat.{ℕ}
 use Rattle.model.specs.Record as model
 use Rattle.memory.specs.declared.Record.{Record}
-use Rattle.memory.specs.Contract.{recordOf, FormulaAnswersAnyPorts}
+use Rattle.memory.specs.Contract.{recordOf}
+use Rattle.formula_record.specs.Contract.{FormulaAnswersAnyPorts}
 use Rattle.formula_access.specs.declared.FormulaAnswer.{FormulaAnswer}
 use Rattle.formula_access.specs.Contract.{answerOf}
 use Rattle.formula_calls.specs.Call.{Making, FormulaResult, formulaStep}

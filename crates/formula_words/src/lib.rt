@@ -3,7 +3,7 @@ ghost use mathlib.Core.Path.{_≡_};
 ghost use Rattle.formula_calls.specs.Call.{asserting, checking};
 ghost use Rattle.formula_access.specs.Contract.{answerOf};
 ghost use Rattle.formula_words.specs.Contract.{Told, tells, told, leftFormula, formulaCalled};
-use memory::FormulaAnswer;
+use formula_record::FormulaAnswer;
 
 // Asserts by a written formula.
 pub fn assert_formula(
@@ -19,7 +19,14 @@ pub fn assert_formula(
 ) -> u32
     ensures { λ r. ⌜ leftFormula r (now («record» .exit)) (now (nodes .exit)) (now (list .exit)) (now (answer .exit)) (now (listed .exit)) (now (made .exit)) (now (place .exit)) ≡ formulaCalled asserting (now (text .entry)) (now (table .entry)) (now («record» .entry)) (now (nodes .entry)) (now (list .entry)) (now (answer .entry)) (now (listed .entry)) (now (made .entry)) (now (place .entry)) ⌝ }
 {
-    let x = record_words::record_of(record).assert_formula(nodes, list, text, table, answer);
+    let x = formula_record::assert_formula(
+        record_words::record_of(record),
+        nodes,
+        list,
+        text,
+        table,
+        answer,
+    );
     record_words::put_record(record, x.after);
     let a = x.answer;
     tell(a, listed, made, place)
@@ -39,7 +46,14 @@ pub fn check_formula(
 ) -> u32
     ensures { λ r. ⌜ leftFormula r (now («record» .exit)) (now (nodes .exit)) (now (list .entry)) (now (answer .exit)) (now (listed .exit)) (now (made .exit)) (now (place .exit)) ≡ formulaCalled checking (now (text .entry)) (now (table .entry)) (now («record» .entry)) (now (nodes .entry)) (now (list .entry)) (now (answer .entry)) (now (listed .entry)) (now (made .entry)) (now (place .entry)) ⌝ }
 {
-    let x = record_words::record_of(record).check_formula(nodes, list, text, table, answer);
+    let x = formula_record::check_formula(
+        record_words::record_of(record),
+        nodes,
+        list,
+        text,
+        table,
+        answer,
+    );
     record_words::put_record(record, x.after);
     let a = x.answer;
     tell(a, listed, made, place)

@@ -11,14 +11,9 @@ use Rattle.rows.specs.Contract as rows
 use Rattle.read_access.specs.Contract.{Reads, ReadsOn}
 use Rattle.memory.specs.declared.Record.{Record}
 use Rattle.memory.specs.declared.ReadAnswer.{ReadAnswer}
-use Rattle.memory.specs.Contract.{fieldsOf, recordOf, stateOf, memoryOf, readAnswer, Says, Answers, AnswersAnyPorts, AnswersOnAnyPorts, ReadAnswers, ReadAnswersOn, FormulaAnswersAnyPorts}
+use Rattle.memory.specs.Contract.{fieldsOf, recordOf, stateOf, memoryOf, readAnswer, Says, Answers, AnswersAnyPorts, AnswersOnAnyPorts, ReadAnswers, ReadAnswersOn}
 use Rattle.model.specs.Frames.{isRead}
 use Rattle.model.proofs.UnseenLaws.{any-ports}
-use Rattle.formula_calls.specs.Call.{Making}
-use Rattle.formula_calls.specs.Chain.{FormulaAnswered}
-use Rattle.formula_calls.proofs.PortLaws.{formula-any-ports}
-use Rattle.formula_access.specs.declared.FormulaAnswer.{FormulaAnswer}
-use Rattle.formula_access.specs.Contract.{answerOf}
 
 -- an answer by its number
 pub refused-by : (k : ℕ) (a : Given) → (k ≡ 0 → ⊥) → refused k ≡ rows.unlessRefused k a
@@ -76,10 +71,3 @@ module _ (r : Record) (w l ps : List ℕ) (p : ℕ) (e a out : List ℕ) (r′ :
         is = handed-read (A .is);
         sound = subst (λ (f : Fields). rows.Next (rows.portedOf f w′ l ps′) (readAnswer x out′) table) (sym (S .0)) (subst (λ (z : Answer). rows.Next (rows.portedOf f w′ l ps′) z table) (sym (S .1)) (A .sound));
       }
-
--- a formula
-pub handed-formula : (k : Making) (text predicates out : List ℕ) (g : Record) (w l : List ℕ) (r : Record) {f : Fields} (w′ l′ out′ : List ℕ) (a : FormulaAnswer) {b : FormulaAnswer} → (fieldsOf r ≡ f) × (a ≡ b)
-    → FormulaAnswered k text predicates out (memoryOf g w l) (rows.stateOf f w′ l′) out′ (answerOf b) → FormulaAnswersAnyPorts k text predicates out g w l r w′ l′ out′ a
-handed-formula k text predicates out g w l r {f} w′ l′ out′ a {b} S A =
-    formula-any-ports k text predicates out (memoryOf g w l) (memoryOf r w′ l′) out′ (answerOf a)
-    (subst (λ (f : Fields). FormulaAnswered k text predicates out (memoryOf g w l) (rows.stateOf f w′ l′) out′ (answerOf a)) (sym (S .0)) (subst (λ (x : FormulaAnswer). FormulaAnswered k text predicates out (memoryOf g w l) (rows.stateOf f w′ l′) out′ (answerOf x)) (sym (S .1)) A))

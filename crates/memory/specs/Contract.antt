@@ -10,10 +10,6 @@ use Rattle.rows.specs.Contract as rows
 use Rattle.model.specs.Chain.{AnswersNode}
 pub use Rattle.rows.specs.Contract.{Answers, Next, AnswersOn}
 pub use Rattle.node_calls.specs.Contract.{numbered, freshed}
-use Rattle.formula_calls.specs.Call.{Making}
-use Rattle.formula_calls.specs.Chain.{FormulaAnswered}
-use Rattle.formula_access.specs.declared.FormulaAnswer.{FormulaAnswer}
-use Rattle.formula_access.specs.Contract.{answerOf}
 use Rattle.memory.specs.declared.Record.{Record}
 use Rattle.memory.specs.declared.FreshAnswer.{FreshAnswer}
 use Rattle.memory.specs.declared.FreshAnswer.the-variants as fresh
@@ -104,7 +100,3 @@ pub record ReadAnswers (r : Record) (w l ps : List ℕ) (p : ℕ) (e a out : Lis
 pub record ReadAnswersOn (r : Record) (w l ps : List ℕ) (p : ℕ) (e a out : List ℕ) (r′ : Record) (w′ ps′ out′ : List ℕ) (x : ReadAnswer) (table : List ℕ) : Type 0 where
   pub is : ReadAnswers r w l ps p e a out r′ w′ ps′ out′ x
   pub sound : Next (stateOf r′ w′ l ps′) (readAnswer x out′) table
-
--- a formula, which is lent no ports: whatever they are, they stay
-abbrev pub FormulaAnswersAnyPorts : Making → List ℕ → List ℕ → List ℕ → Record → List ℕ → List ℕ → Record → List ℕ → List ℕ → List ℕ → FormulaAnswer → Type 0
-FormulaAnswersAnyPorts k text predicates out r w l r′ w′ l′ out′ a = (ps : List ℕ) → FormulaAnswered k text predicates out (stateOf r w l ps) (stateOf r′ w′ l′ ps) out′ (answerOf a)

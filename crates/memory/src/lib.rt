@@ -6,16 +6,13 @@ ghost use Rattle.conditions.specs.Contract.{Sound};
 ghost use Rattle.model.specs.Step.{accepted, node, valued, begin, write, assert, check, evaluate, variable, ite, fresh};
 ghost use Rattle.model.specs.Frames.{Valid, PortsValid};
 ghost use Rattle.rows.specs.Contract.{unlessRefused};
-ghost use Rattle.formula_calls.specs.Call.{asserting, checking};
 ghost use Rattle.node_calls.specs.Contract.{numbered, freshed};
 ghost use Rattle.write_access.specs.Contract as write_access;
 ghost use Rattle.assert_access.specs.Contract as assert_access;
-ghost use Rattle.memory.specs.Contract.{fieldsOf, recordOf, stateOf, memoryOf, freshAnswer, writeAnswer, assertAnswer, checkAnswer, nodeAnswer, valueAnswer, Says, SaysRead, AnswersAnyPorts, AnswersOnAnyPorts, AnswersNoList, ReadAnswers, ReadAnswersOn, FormulaAnswersAnyPorts};
+ghost use Rattle.memory.specs.Contract.{fieldsOf, recordOf, stateOf, memoryOf, freshAnswer, writeAnswer, assertAnswer, checkAnswer, nodeAnswer, valueAnswer, Says, SaysRead, AnswersAnyPorts, AnswersOnAnyPorts, AnswersNoList, ReadAnswers, ReadAnswersOn};
 use access::ControlNode;
 use assert_access::AssertDone;
 use conditions::Table;
-pub use formula_access::FormulaAnswer;
-use formula_access::FormulaDone;
 use node_calls::NodeDone;
 use node_calls::ValueDone;
 use rows::Done;
@@ -106,13 +103,8 @@ pub struct ValueResult {
     pub answer: ValueAnswer,
 }
 
-pub struct FormulaResult {
-    pub after: Record,
-    pub answer: FormulaAnswer,
-}
-
 // The record of these fields.
-fn recorded(f: Fields) -> Record
+pub fn recorded(f: Fields) -> Record
     ensures { λ r. ⌜ fieldsOf r ≡ f ⌝ }
 {
     Record {
@@ -254,14 +246,6 @@ fn value_result(r: Record, d: ValueDone) -> ValueResult
         after: r,
         answer: ValueAnswer::Value(d.value),
     }
-}
-
-fn formula_result(d: FormulaDone) -> FormulaResult
-    ensures { λ x. ⌜ (fieldsOf (x .after) ≡ d .after) × (x .answer ≡ d .answer) ⌝ }
-{
-    let after = recorded(d.after);
-    let answer = d.answer;
-    FormulaResult { after, answer }
 }
 
 impl Record {
@@ -453,35 +437,5 @@ impl Record {
     {
         let f = self.fields();
         assert_result(assert_access::assert(f, words, list, b, address, data))
-    }
-
-    // Asserts by a written formula, over a table of predicates.
-    pub fn assert_formula(
-        self,
-        words: &mut [u32],
-        list: &mut [u32],
-        text: &[u8],
-        predicates: &[u32],
-        answer: &mut [u32],
-    ) -> FormulaResult
-        ensures { λ r. ⌜ FormulaAnswersAnyPorts asserting (now (text .entry)) (now (predicates .entry)) (now (answer .entry)) self (now (words .entry)) (now (list .entry)) (r .after) (now (words .exit)) (now (list .exit)) (now (answer .exit)) (r .answer) ⌝ }
-    {
-        let f = self.fields();
-        formula_result(formula_access::assert_formula(f, words, list, text, predicates, answer))
-    }
-
-    // Checks by one.
-    pub fn check_formula(
-        self,
-        words: &mut [u32],
-        list: &[u32],
-        text: &[u8],
-        predicates: &[u32],
-        answer: &mut [u32],
-    ) -> FormulaResult
-        ensures { λ r. ⌜ FormulaAnswersAnyPorts checking (now (text .entry)) (now (predicates .entry)) (now (answer .entry)) self (now (words .entry)) (now (list .entry)) (r .after) (now (words .exit)) (now (list .entry)) (now (answer .exit)) (r .answer) ⌝ }
-    {
-        let f = self.fields();
-        formula_result(formula_access::check_formula(f, words, list, text, predicates, answer))
     }
 }
