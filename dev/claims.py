@@ -3,8 +3,9 @@
 
   dev/claims.py table     write docs/WRONG-PROGRAMS.md from the first lines of crates/*/must-fail/*.edit
   dev/claims.py check     fail where that page is out of date, where an edit lacks its lines or does not fit the files,
-                          where nothing has the name of what it says refuses it, or where docs/CLAIMS.md cites a file
-                          or a name that is not there
+                          where nothing has the name of what it says refuses it, where what 01 wants failed or rules
+                          out is not there as a definition and as a program, or where docs/CLAIMS.md cites a file or
+                          a name that is not there
   dev/claims.py try CRATE EDIT..   apply each of these edits to a copy of its crate, check that, and say what refuses it first
                           (`rt check CRATE` before, for what stands below it)
 
@@ -108,26 +109,39 @@ def link(edit):
     return "[%s](../%s)" % (edit.label, edit.path.replace(os.sep, "/"))
 
 
-def singled_out(found, mark, title, first):
+FAIL_FIRST, RULED_OUT = "wrong program: ", "ruled out: "
+
+
+def by_sentence(found, mark):
     """The edits whose sentence 01 names itself, by sentence: the definitions that have it wrong, and the programs."""
     rows = {}
     for edit in found:
         if edit.said.get("of", "").startswith(mark):
-            rows.setdefault(edit.said["of"][len(mark):], []).append(edit)
+            rows.setdefault(edit.said["of"][len(mark):], ([], []))["definition" not in edit.kind()].append(edit)
+    return sorted(rows.items())
+
+
+def singled_out(found, mark, title):
+    rows = by_sentence(found, mark)
     if not rows:
         return []
-    out = ["", "## " + title, "", "| %s | definition, refused by | program, refused by |" % first, "|---|---|---|"]
-    for sentence in sorted(rows):
-        cells = ["; ".join("%s `%s`: %s" % (link(e), e.crate, e.said["refused by"]) for e in rows[sentence] if ("definition" in e.kind()) == wanted) for wanted in (True, False)]
+    out = ["", "## " + title, "", "| 01's words | definition, refused by | program, refused by |", "|---|---|---|"]
+    for sentence, sides in rows:
+        cells = ["; ".join("%s `%s`: %s" % (link(e), e.crate, e.said["refused by"]) for e in side) for side in sides]
         out.append("| %s | %s | %s |" % (sentence, *cells))
     return out
+
+
+def one_sided(found):
+    return ["no wrong %s: %s%s" % (kind, mark, sentence) for mark in (FAIL_FIRST, RULED_OUT) for sentence, sides in by_sentence(found, mark)
+            for kind, side in zip(("definition", "program"), sides) if not side]
 
 
 def page(base):
     found = edits(base)
     out = [HEAD.rstrip("\n")]
-    out += singled_out(found, "wrong program: ", "Those that 01 wants failed first", "01's words")
-    out += singled_out(found, "ruled out: ", "Those that 01 rules out", "01's words")
+    out += singled_out(found, FAIL_FIRST, "Those that 01 wants failed first")
+    out += singled_out(found, RULED_OUT, "Those that 01 rules out")
     for crate in crates_of(base):
         mine = [edit for edit in found if edit.crate == crate]
         if mine:
@@ -211,7 +225,7 @@ def do_table(base):
 
 def do_check(base):
     found = edits(base)
-    faults = [fault for edit in found for fault in edit.faults(base)] + refused_faults(base, found)
+    faults = [fault for edit in found for fault in edit.faults(base)] + refused_faults(base, found) + one_sided(found)
     path = os.path.join(base, PAGE)
     if not os.path.exists(path) or read(path) != page(base):
         faults.append("%s is out of date: python3 dev/claims.py table" % PAGE)

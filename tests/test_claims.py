@@ -23,6 +23,8 @@ FILES = {
     "crates/low/must-fail/clear_one.edit": "# of: \"all node words are 0\"\n# wrong: the first word is 1\n# refused by: the contract of `clear`\nfile: src/lib.rt\nold: words[0] = 0;\nnew: words[0] = 1;\n",
     "crates/low/must-fail/less.edit": "# of: ruled out: \"a word less\"\n# wrong: four words a node\n# refused by: `node-has`\nfile: specs/Words.antt\nold: w / 3\nnew: w / 4\n",
     "crates/high/must-fail/reads.edit": "# of: wrong program: \"the reader of all X\"\n# wrong: a read is 0\n# refused by: the contract of `read`\nfile: src/lib.rt\nold:     1\nnew:     0\n",
+    "crates/low/must-fail/reads_defined.edit": "# of: wrong program: \"the reader of all X\"\n# wrong: a word is 0\n# refused by: `node-has`\nfile: specs/Words.antt\nold: record Word\nnew: record Zero\n",
+    "crates/high/must-fail/less.edit": "# of: ruled out: \"a word less\"\n# wrong: half a word\n# refused by: the contract of `read`\nfile: src/lib.rt\nold: -> u32\nnew: -> u16\n",
     "docs/CLAIMS.md": "| a | `low/specs/Words.antt` `Word` `size` `capacityOf` | `low/proofs/WordsLaws.antt` `node-has`; contract `low/src/lib.rt` `clear` |\n"
                       "The struct: `high/src/lib.rt` `Record`. Names after other words are not looked for: `low/specs/Words.antt`, then `nowhere`.\n",
 }
@@ -60,11 +62,11 @@ class Claims(unittest.TestCase):
 
     def test_page(self):
         page = self.read("docs/WRONG-PROGRAMS.md")
-        self.assertIn("| \"the reader of all X\" |  | [reads](../crates/high/must-fail/reads.edit) `high`: the contract of `read` |", page)
-        self.assertIn("| \"a word less\" | [less](../crates/low/must-fail/less.edit) `low`: `node-has` |  |", page)
+        self.assertIn("| \"the reader of all X\" | [reads_defined](../crates/low/must-fail/reads_defined.edit) `low`: `node-has` | [reads](../crates/high/must-fail/reads.edit) `high`: the contract of `read` |", page)
+        self.assertIn("| \"a word less\" | [less](../crates/low/must-fail/less.edit) `low`: `node-has` | [less](../crates/high/must-fail/less.edit) `high`: the contract of `read` |", page)
         self.assertIn("| the first word is 1 | \"all node words are 0\" | program | the contract of `clear` | [clear_one](../crates/low/must-fail/clear_one.edit) |", page)
         self.assertLess(page.index("## `low`"), page.index("## `high`"))
-        self.assertTrue(page.endswith("\n3 edits.\n"))
+        self.assertTrue(page.endswith("\n5 edits.\n"))
 
     def test_out_of_date(self):
         self.write("crates/low/must-fail/less.edit", FILES["crates/low/must-fail/less.edit"].replace("four words", "five words"))
@@ -79,6 +81,15 @@ class Claims(unittest.TestCase):
         self.write("crates/low/must-fail/reads.edit", FILES["crates/high/must-fail/reads.edit"].replace("src/lib.rt", "src/read.rt"))
         self.run_it("table")
         self.assertEqual(self.faults(), [])
+
+    def test_one_side(self):
+        """What 01 singles out is there as a definition and as a program."""
+        for name, fault in (("crates/low/must-fail/less", "no wrong definition: ruled out: \"a word less\""),
+                            ("crates/high/must-fail/reads", "no wrong program: wrong program: \"the reader of all X\"")):
+            os.remove(os.path.join(self.base, name + ".edit"))
+            self.run_it("table")
+            self.assertEqual(self.faults(), [fault])
+            self.write(name + ".edit", FILES[name + ".edit"])
 
     def check_edit(self, text, fault):
         self.write("crates/low/must-fail/clear_one.edit", text)
