@@ -22,6 +22,7 @@ formulas-by-hand =
       answer-short = refl;
       unfinished = refl;
       node-of-the-text = refl;
+      third-and-fourth = refl;
       checks = refl;
       stopped-by-space = refl;
       stopped-by-a-word = refl;

@@ -7,6 +7,7 @@ pub mod ChainLaws
 pub mod RowLaws
 pub mod StandLaws
 pub mod WordLaws
+pub mod TripleLaws
 pub mod ListLaws
 pub mod NumberLaws
 pub mod PortLaws

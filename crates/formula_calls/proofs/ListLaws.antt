@@ -1,4 +1,4 @@
--- The answer words list what the text lists.
+-- The answer words list what the text lists, and the accesses are made as they list them.
 use mathlib.Core.Path.{_≡_, refl, sym, ap, subst, _∙_}
 use mathlib.Core.Bool.{Bool, true, false, cond, true≢false, false≢true}
 use mathlib.Core.List.{List, [], _∷_, _++_}
@@ -17,11 +17,12 @@ use Rattle.model.proofs.FinishLaws.{of-program}
 use Rattle.model.proofs.FormulaLaws.{are-listed}
 use Rattle.model.proofs.FrameLaws.{stays-valid}
 use Rattle.formula_calls.specs.Call.{Making, inOrder, listedOver, accessesBy, make, FormulaResult, Found, readFormula, answerBy, afterBuilding, finishFormula, formulaStep}
-use Rattle.formula_calls.specs.Claims.{tried, ReadAs, HasListed, FormulaLists}
+use Rattle.formula_calls.specs.Claims.{tried, callsFound, triedAfter, callsOf, ReadAs, HasListed, FormulaLists, MadeAsListed, FormulaMakes}
 use Rattle.formula_calls.proofs.FoundLaws.{Finds, by-memory, by-fault, by-short, by-tree, finds}
 use Rattle.formula_calls.proofs.MakeLaws.{make-leaves}
 use Rattle.formula_calls.proofs.RowLaws.{read-as, as-many}
 use Rattle.formula_calls.proofs.StandLaws.{memory-valid, run-listed}
+use Rattle.formula_calls.proofs.TripleLaws.{triples-made}
 use Rattle.formula_calls.proofs.WordLaws.{stands-in}
 
 -- triples are what is listed in the order of the steps too
@@ -77,8 +78,8 @@ module _ (k : Making) (text table out : List ℕ) (s : State) (n : ℕ) where
   made-many zero l m h = h
   made-many (suc j) l m h = h
 
-  -- of a result
-  record Lists (x : FormulaResult) : Type 0 where
+  -- of a result and the calls that it stands for
+  record Lists (x : FormulaResult) (cs : List Call) : Type 0 where
     tree : Tree
     listing : List Triple
     read : ReadAs text table s tree
@@ -87,8 +88,11 @@ module _ (k : Making) (text table out : List ℕ) (s : State) (n : ℕ) where
     words : x .words ≡ listedOver listing out
     lists : length listing ≡ length (ordered tree)
     means : (a : ℕ) → a < 2 ^ 64 → AreListed (bitAt a) (s .words) (x .after .words) listing (ordered tree)
+    accesses : List Call
+    are : cs ≡ nodeCall (conditions tree) ∷ accesses
+    made : MadeAsListed k (s .rec) table (x .words) 0 accesses
 
-  found-lists : (f : Found) → Finds text table out s f → HasListed (finishFormula k table out s f .answer) n → Lists (finishFormula k table out s f)
+  found-lists : (f : Found) → Finds text table out s f → HasListed (finishFormula k table out s f .answer) n → Lists (finishFormula k table out s f) (callsFound k table s f)
   unfolding StaysValid
   found-lists f (by-memory j F) h = absurd h
   found-lists f (by-fault j p x A F e) h = absurd h
@@ -101,7 +105,7 @@ module _ (k : Making) (text table out : List ℕ) (s : State) (n : ℕ) where
       u : State
       u = step c s .after
 
-      built : (x : Answer) → step c s .answer ≡ x → HasListed (afterBuilding k (s .rec) table out x u .answer) n → Lists (afterBuilding k (s .rec) table out x u)
+      built : (x : Answer) → step c s .answer ≡ x → HasListed (afterBuilding k (s .rec) table out x u .answer) n → Lists (afterBuilding k (s .rec) table out x u) (c ∷ triedAfter k (s .rec) table x u)
       built (refused j) z h = absurd h
       built (done g) z h =
           let ts = inOrder (triplesOf g) in
@@ -121,6 +125,9 @@ module _ (k : Making) (text table out : List ℕ) (s : State) (n : ℕ) where
             words = refl;
             lists = q;
             means = λ a small. subst (λ (v : State). AreListed (bitAt a) (s .words) (v .words) ts (ordered t)) (sym (make-leaves cs u)) (D a);
+            accesses = tried cs u;
+            are = refl;
+            made = triples-made table s (A .0 .n-least) k out t (triplesOf g) (s .words) (u .words) (begin (u .rec)) u (read-as text table s t e .named) L (omega (arith, l, q, as-many t));
           }
 
 pub formula-lists : FormulaLists
@@ -128,3 +135,9 @@ unfolding FormulaLists formulaStep
 formula-lists k text table out s n h =
     let L = found-lists k text table out s n (readFormula text table out s) (finds text table out s) h in
     record { tree = L .tree; triples = L .listing; read = L .read; many = L .many; some = (let a = as-many (L .tree) in let b = lists-some 0 [] (L .tree) in omega (arith, L .many, a, b)); fits = L .fits; words = stands-in (L .listing) out (finishFormula k table out s (readFormula text table out s) .words) (omega (arith, L .fits, L .many, L .lists)) (L .words); means = L .means }
+
+pub formula-makes : FormulaMakes
+unfolding FormulaMakes formulaStep callsOf
+formula-makes k text table out s n h =
+    let L = found-lists k text table out s n (readFormula text table out s) (finds text table out s) h in
+    record { tree = L .tree; read = L .read; accesses = L .accesses; are = L .are; made = L .made }

@@ -35,7 +35,7 @@ module _ (table : List ℕ) (s : State) where
   is-predicate : (p : ℕ) → 1 ≤ s .rec .n → ((p + 1) * (2 * s .rec .n + 2 * s .rec .w) ≤ length table) × (p ≤ 4294967295) → limitsOf s table .predicates p ≡ true
   is-predicate p l h = both-and (lt-ltb _ _ (whole p l .1 (h .0))) (le-leb _ _ (h .1))
 
-  numbers-exactly : NumbersExactly table s
+  pub numbers-exactly : NumbersExactly table s
   numbers-exactly = record { predicates = λ p l. (predicate-is p l, is-predicate p l); nodes = λ b. let N = names (s .rec) (s .words) b in (N .is, N .so) }
 
 -- a text is read as a tree where the reader reads it so

@@ -11,11 +11,11 @@ use Rattle.formulas.specs.Claims.{depth, numbers, First}
 use Rattle.conditions.specs.Assignment.{bitAt}
 use Rattle.model.specs.Record.{Record}
 use Rattle.model.specs.Formula.{Triple}
-use Rattle.model.specs.Step.{State, withWords, withPorts, Access, conditions, Call, access, nodeCall, Answer, refused, done, isRefused, triplesOf, step, run, AllAccepted}
+use Rattle.model.specs.Step.{State, withWords, withPorts, Access, assert, check, conditions, Call, access, nodeCall, Answer, refused, done, isRefused, triplesOf, step, run, AllAccepted}
 use Rattle.model.specs.Frames.{wordsAfter, clears}
 use Rattle.model.specs.Meanings.{AreListed}
 use Rattle.model.specs.Table.{Names, memoryFacts, AllHold, FirstFails, Overflows}
-use Rattle.formula_calls.specs.Call.{Making, limitsOf, inOrder, accessesBy, FormulaAnswer, faulty, refusedBy, stopped, allMade, Found, turnsDown, reads, readFormula, formulaStep}
+use Rattle.formula_calls.specs.Call.{Making, asserting, checking, limitsOf, inOrder, accessesBy, FormulaAnswer, faulty, refusedBy, stopped, allMade, Found, turnsDown, reads, readFormula, formulaStep}
 
 -- The calls that a formula stands for: none where it is refused before anything is built; else its conditions, as one node call, and its accesses in order, up to and with the first that is refused
 abbrev pub unlessRefused : Answer → List Call → List Call
@@ -119,6 +119,36 @@ pub record ListsText (k : Making) (text table out : List ℕ) (s : State) (n : �
 
 unfoldable pub FormulaLists : Type 0
 FormulaLists = (k : Making) (text table out : List ℕ) (s : State) (n : ℕ) → HasListed (formulaStep k text table out s .answer) n → ListsText k text table out s n
+
+-- Which accesses are made, by the words of the table alone: those of predicate p are the 2n + 2w from p(2n + 2w) on, "address, then data"
+pub record PredicateAt (r : Record) (table : List ℕ) (p : ℕ) (address word : List ℕ) : Type 0 where
+  pub before : List ℕ
+  pub past : List ℕ
+  pub is : table ≡ before ++ (address ++ (word ++ past))
+  pub at : length before ≡ p * (2 * r .n + 2 * r .w)
+  pub address-long : length address ≡ 2 * r .n
+  pub word-long : length word ≡ 2 * r .w
+
+-- the call is an assert, or a check, of predicate p under node b
+pub data MadeOf (r : Record) (table : List ℕ) (b p : ℕ) : Making → Call → Type 0 where
+  is-assert : (a d : List ℕ) → PredicateAt r table p a d → MadeOf r table b p asserting (access (assert b a d))
+  is-check : (a d : List ℕ) → PredicateAt r table p a d → MadeOf r table b p checking (access (check b a d))
+
+-- these calls, the first of which is the i-th access, are of the conditions and predicates that the answer words ws list at their places
+abbrev pub MadeAsListed : Making → Record → List ℕ → List ℕ → ℕ → List Call → Type 0
+MadeAsListed k r table ws i [] = Unit {0}
+MadeAsListed k r table ws i (c ∷ cs) = MadeOf r table (getD ws (3 * i + 1) 0) (getD ws (3 * i + 2) 0) k c × MadeAsListed k r table ws (suc i) cs
+
+-- "Asserts or checks are then made in that order": the calls that a formula stands for are the conditions of its text, and accesses as the answer words list them
+pub record MakesListed (k : Making) (text table out : List ℕ) (s : State) : Type 0 where
+  pub tree : Tree
+  pub read : ReadAs text table s tree
+  pub accesses : List Call
+  pub are : callsOf k text table out s ≡ nodeCall (conditions tree) ∷ accesses
+  pub made : MadeAsListed k (s .rec) table (formulaStep k text table out s .words) 0 accesses
+
+unfoldable pub FormulaMakes : Type 0
+FormulaMakes = (k : Making) (text table out : List ℕ) (s : State) (n : ℕ) → HasListed (formulaStep k text table out s .answer) n → MakesListed k text table out s
 
 -- No port is lent to a formula: what it answers, and leaves of record, node words, list and answer words, turns on none, and all stay
 unfoldable pub FormulaPortsUnseen : Type 0

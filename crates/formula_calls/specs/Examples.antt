@@ -15,6 +15,10 @@ memory c e a k past list = record { rec = recordOf 1 2 c e a k; words = (64 ∷ 
 abbrev pub predicates : List ℕ
 predicates = 1 ∷ 0 ∷ 1 ∷ 1 ∷ 0 ∷ 1 ∷ 0 ∷ 1 ∷ 0 ∷ 1 ∷ 1 ∷ 0 ∷ 1 ∷ 0 ∷ 1 ∷ 1 ∷ 1 ∷ []
 
+-- five predicates, of which m2 is of address 1 and data 1, 0, m3 of address 1 and data X, 1
+abbrev pub five : List ℕ
+five = 1 ∷ 0 ∷ 1 ∷ 1 ∷ 0 ∷ 1 ∷ 0 ∷ 1 ∷ 0 ∷ 1 ∷ 1 ∷ 0 ∷ 1 ∷ 0 ∷ 1 ∷ 0 ∷ 0 ∷ 1 ∷ 1 ∷ 0 ∷ 1 ∷ 1 ∷ 1 ∷ 0 ∷ 0 ∷ 1 ∷ 0 ∷ 1 ∷ 0 ∷ 1 ∷ []
+
 -- `N(b2 -> b3 -> b4 -> m0) & (b3 -> b4 -> m1)`, with this digit for the last
 abbrev pub nested : ℕ → List ℕ
 nested d =
@@ -38,6 +42,8 @@ pub record FormulasByHand : Type 0 where
   pub unfinished : Gives asserting (nested 50) predicates (replicate 5 5) (memory 5 0 1 1 (replicate 6 7) (replicate 17 5)) (faulty 15 39) (memory 5 0 1 1 (replicate 6 7) (replicate 17 5)) (replicate 5 5)
   -- `(b2 -> b3 -> m0) & (b5 -> m1)`: And(2, 3) would be node 5; it is not there when the text is read
   pub node-of-the-text : Gives asserting (40 ∷ 98 ∷ 50 ∷ 32 ∷ 45 ∷ 62 ∷ 32 ∷ 98 ∷ 51 ∷ 32 ∷ 45 ∷ 62 ∷ 32 ∷ 109 ∷ 48 ∷ 41 ∷ 32 ∷ 38 ∷ 32 ∷ 40 ∷ 98 ∷ 53 ∷ 32 ∷ 45 ∷ 62 ∷ 32 ∷ 109 ∷ 49 ∷ 41 ∷ []) predicates (replicate 6 5) (memory 5 0 1 1 (replicate 6 7) (replicate 17 5)) (faulty 15 20) (memory 5 0 1 1 (replicate 6 7) (replicate 17 5)) (replicate 6 5)
+  -- `N N(b3 -> m2) & m3`: the entries have the words of the fourth predicate and of the third, this one under node 3
+  pub third-and-fourth : Gives asserting (78 ∷ 32 ∷ 78 ∷ 40 ∷ 98 ∷ 51 ∷ 32 ∷ 45 ∷ 62 ∷ 32 ∷ 109 ∷ 50 ∷ 41 ∷ 32 ∷ 38 ∷ 32 ∷ 109 ∷ 51 ∷ []) five (replicate 7 5) (memory 5 0 1 1 (replicate 9 7) (replicate 17 5)) (allMade 2) (memory 8 2 7 1 (0 ∷ 0 ∷ 1 ∷ 0 ∷ 1 ∷ 0 ∷ 9 ∷ 1 ∷ 0 ∷ []) (1 ∷ 0 ∷ 1 ∷ 0 ∷ 1 ∷ 1 ∷ 1 ∷ 0 ∷ 3 ∷ 0 ∷ 1 ∷ 0 ∷ 1 ∷ 0 ∷ 0 ∷ 1 ∷ 5 ∷ [])) (0 ∷ 1 ∷ 3 ∷ 2 ∷ 3 ∷ 2 ∷ 5 ∷ [])
   -- `(b3 -> N m0) & (b4 -> m1)`: checks, over an entry
   pub checks : Gives checking (40 ∷ 98 ∷ 51 ∷ 32 ∷ 45 ∷ 62 ∷ 32 ∷ 78 ∷ 32 ∷ 109 ∷ 48 ∷ 41 ∷ 32 ∷ 38 ∷ 32 ∷ 40 ∷ 98 ∷ 52 ∷ 32 ∷ 45 ∷ 62 ∷ 32 ∷ 109 ∷ 49 ∷ 41 ∷ []) predicates (replicate 7 5) (memory 5 1 1 1 (replicate 33 7) (1 ∷ 0 ∷ 0 ∷ 1 ∷ 2 ∷ 1 ∷ 1 ∷ 0 ∷ 5 ∷ [])) (allMade 2) (memory 15 1 1 14 (0 ∷ 0 ∷ 1 ∷ 0 ∷ 1 ∷ 0 ∷ 0 ∷ 2 ∷ 1 ∷ 0 ∷ 2 ∷ 0 ∷ 8 ∷ 1 ∷ 0 ∷ 10 ∷ 1 ∷ 0 ∷ 8 ∷ 1 ∷ 10 ∷ 9 ∷ 1 ∷ 0 ∷ 9 ∷ 10 ∷ 0 ∷ 8 ∷ 12 ∷ 13 ∷ 7 ∷ 7 ∷ 7 ∷ []) (1 ∷ 0 ∷ 0 ∷ 1 ∷ 2 ∷ 1 ∷ 1 ∷ 0 ∷ 5 ∷ [])) (0 ∷ 4 ∷ 1 ∷ 1 ∷ 3 ∷ 0 ∷ 5 ∷ [])
   -- `(b3 -> N m0) & m1 & m0`, space for one entry: "up to the first refusal, which is returned with the number made; those made stand"
