@@ -21,7 +21,7 @@ pub struct AssertBuilt {
     pub keep: u32,
 }
 
-// The check condition that a check builds; the word is its own.
+// The check condition that a check builds. The word is its caller's scratch, for the look: what it holds afterwards is left open.
 pub fn check_builds(
     r: Fields,
     words: &mut [u32],
@@ -46,7 +46,7 @@ pub fn check_builds(
     conditions::and(words, table, y.store, r.checked, y.node)
 }
 
-// The assert condition that an assert builds, and what decides whether it is kept; the word is its own.
+// The assert condition that an assert builds, and what decides whether it is kept. The word is scratch likewise.
 pub fn assert_builds(
     r: Fields,
     words: &mut [u32],

@@ -100,7 +100,7 @@ fn check_by(
     check_access::check_on(r, words, list, table, b, address, data)
 }
 
-// The asserts by the first so many triples.
+// The asserts by the first so many triples. What the table holds afterwards is left open: it is its caller's, for one formula, and nothing is built after these.
 pub fn make_asserts(
     r: Fields,
     words: &mut [u32],
@@ -136,7 +136,7 @@ pub fn make_asserts(
     }
 }
 
-// The checks by the first so many triples.
+// The checks by the first so many triples. The table is left open likewise.
 pub fn make_checks(
     r: Fields,
     words: &mut [u32],

@@ -259,6 +259,33 @@ fn formula_answer(row: u32, listed: u64, made: u64, place: u64) -> Result<usize,
     }
 }
 
+/// What a formula answers by this function: the one for asserts is lent the list to write, the one for checks to read.
+macro_rules! formula {
+    ($function:ident, $record:ident, $nodes:ident, $list:expr, $text:ident, $table:ident, $answer:ident) => {{
+        let (list, list_length) = $list;
+        let (mut listed, mut made, mut place) = (0, 0, 0);
+        let row = unsafe {
+            raw::$function(
+                $record,
+                $nodes.as_mut_ptr(),
+                $nodes.len(),
+                list,
+                list_length,
+                $text.as_ptr(),
+                $text.len(),
+                $table.as_ptr(),
+                $table.len(),
+                $answer.as_mut_ptr(),
+                $answer.len(),
+                &mut listed,
+                &mut made,
+                &mut place,
+            )
+        };
+        formula_answer(row, listed, made, place)
+    }};
+}
+
 // A Rust slice, also an empty one, has a pointer that is aligned and not null, and what is borrowed
 // by `&mut` overlaps nothing else that is lent: so each call below meets what the functions ask.
 impl Record {
@@ -438,32 +465,10 @@ impl Record {
         table: &[u32],
         answer: &mut [u32],
     ) -> Result<usize, FormulaRefused> {
-        let (mut listed, mut made, mut place) = (0, 0, 0);
-        let row = unsafe {
-            raw::md_assert_formula(
-                self,
-                nodes.as_mut_ptr(),
-                nodes.len(),
-                list.as_mut_ptr(),
-                list.len(),
-                text.as_ptr(),
-                text.len(),
-                table.as_ptr(),
-                table.len(),
-                answer.as_mut_ptr(),
-                answer.len(),
-                &mut listed,
-                &mut made,
-                &mut place,
-            )
-        };
-        formula_answer(row, listed, made, place)
+        formula!(md_assert_formula, self, nodes, (list.as_mut_ptr(), list.len()), text, table, answer)
     }
 
-    /// A written formula as checks, in the order of their steps and then of the text. `table` has predicates of
-    /// address and data words; `answer` gets three words for each predicate in the text, and it is answered how
-    /// many these are. Meets 1, 2, 3, then 15 or 16, 13, 9 of the conditions, and then what its accesses meet:
-    /// 5, 6, 9.
+    /// The same as checks; what its accesses meet is 5, 6, 9.
     pub fn check_formula(
         &mut self,
         nodes: &mut [u32],
@@ -472,26 +477,7 @@ impl Record {
         table: &[u32],
         answer: &mut [u32],
     ) -> Result<usize, FormulaRefused> {
-        let (mut listed, mut made, mut place) = (0, 0, 0);
-        let row = unsafe {
-            raw::md_check_formula(
-                self,
-                nodes.as_mut_ptr(),
-                nodes.len(),
-                list.as_ptr(),
-                list.len(),
-                text.as_ptr(),
-                text.len(),
-                table.as_ptr(),
-                table.len(),
-                answer.as_mut_ptr(),
-                answer.len(),
-                &mut listed,
-                &mut made,
-                &mut place,
-            )
-        };
-        formula_answer(row, listed, made, place)
+        formula!(md_check_formula, self, nodes, (list.as_ptr(), list.len()), text, table, answer)
     }
 }
 

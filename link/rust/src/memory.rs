@@ -277,18 +277,27 @@ impl Memory {
     /// its accesses meet: 6, 7, 8, 9.
     #[track_caller]
     pub fn assert_formula(&mut self, text: &str, predicates: &[Predicate]) -> Result<Vec<Listed>, FormulaRefused> {
-        let (table, mut answer) = (self.table(predicates).map_err(FormulaRefused::Whole)?, room_for(text));
-        let (nodes, list) = (&mut self.nodes, &mut self.list);
-        let listed = self.record.assert_formula(nodes, list, text.as_bytes(), &table, &mut answer)?;
-        Ok(self.listed(&answer[..3 * listed]))
+        self.formula(text, predicates, |memory, text, table, answer| {
+            memory.record.assert_formula(&mut memory.nodes, &mut memory.list, text, table, answer)
+        })
     }
 
     /// The same as checks. Meets 4, then 15 or 16, 9 of the conditions, and then what its accesses meet: 6, 9.
     #[track_caller]
     pub fn check_formula(&mut self, text: &str, predicates: &[Predicate]) -> Result<Vec<Listed>, FormulaRefused> {
+        self.formula(text, predicates, |memory, text, table, answer| {
+            memory.record.check_formula(&mut memory.nodes, &memory.list, text, table, answer)
+        })
+    }
+
+    /// A written formula by this call, which is lent its text, the words of its predicates and room for what it lists.
+    #[track_caller]
+    fn formula<F>(&mut self, text: &str, predicates: &[Predicate], call: F) -> Result<Vec<Listed>, FormulaRefused>
+    where
+        F: FnOnce(&mut Memory, &[u8], &[u32], &mut [u32]) -> Result<usize, FormulaRefused>,
+    {
         let (table, mut answer) = (self.table(predicates).map_err(FormulaRefused::Whole)?, room_for(text));
-        let nodes = &mut self.nodes;
-        let listed = self.record.check_formula(nodes, &self.list, text.as_bytes(), &table, &mut answer)?;
+        let listed = call(self, text.as_bytes(), &table, &mut answer)?;
         Ok(self.listed(&answer[..3 * listed]))
     }
 
