@@ -37,6 +37,7 @@ import storedcases
 import tables
 import wrongcounts
 import wrongformulas
+import wrongorders
 import wrongreads
 import wrongsearches
 import wrongwrites
@@ -954,6 +955,27 @@ WRONG_CALLS = [
 ]
 WRONG_CALLS += [(calls.Memory, "read", wrong) for wrong in wrongreads.WRONG_READS]
 WRONG_CALLS += [(calls.Memory, "write", wrong) for wrong in wrongwrites.WRONG_WRITES]
+
+
+class Orders(unittest.TestCase):
+    """The order of building, and the table of calls that pins it."""
+
+    def test_every_line_is_the_second_programs(self):
+        self.assertEqual(self.telling.faults(), [])
+
+    def test_every_wrong_order_is_told_by_a_line(self):
+        self.telling.search(40)
+        self.assertEqual(self.telling.untold, {})
+
+    def test_most_wrong_orders_are_told(self):
+        self.assertGreater(len(self.telling.told), 3000)
+
+    def test_every_wrong_order_of_a_formula_is_told_by_a_computed_call(self):
+        self.assertEqual(wrongorders.untold_formulas()[0], [])
+
+    @classmethod
+    def setUpClass(cls):
+        cls.telling = wrongorders.Telling()
 
 
 class WrongPrograms(unittest.TestCase):

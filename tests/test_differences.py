@@ -18,8 +18,8 @@ import casetext
 import randomcases
 import reduction
 import wrongcounts
-import wrongorders
 import wrongreads
+import wrongswings
 import wrongwrites
 from calls import ASSERT, CHECK, READ, WRITE, Memory
 from casefile import ONE, X, ZERO, Access, CaseFile, NotACaseFile, number_bits, parse
@@ -38,7 +38,7 @@ WORKED_TEXT = b"write 0\nread 1:(8 0 1)\ncheck (8 1 0)\nend 1\n"
 VARIABLE = re.compile(r"\(([0-9]+) ")
 READS = [(Memory, "read", wrong) for wrong in wrongreads.WRONG_WORDS]
 WRITES = [(Memory, "write", wrong) for wrong in wrongwrites.WRONG_WORDS + wrongwrites.WRONG_LINES]
-SIMULATORS = READS + WRITES + wrongorders.SWINGING + wrongcounts.WRONG_COUNTS
+SIMULATORS = READS + WRITES + wrongswings.SWINGING + wrongcounts.WRONG_COUNTS
 
 
 def text_of(data, simulator=None):
@@ -270,7 +270,7 @@ GROUPS = [
     ((SHARPER, "read"), (Memory, "read", wrongreads.unknown_enable_as_0)),
     ((LOOSER, "read"), (Memory, "read", wrongreads.always_joined)),
     ((LOOSER, "read"), (Memory, "read", wrongreads.forgets_held_word)),
-    ((SHARPER, "check"), (Memory, "check", wrongorders.unknown_passes)),
+    ((SHARPER, "check"), (Memory, "check", wrongswings.unknown_passes)),
     ((OTHER, "write"), (Memory, "write", wrongwrites.idle_entered)),
     ((OTHER, "write"), (Memory, "write", wrongwrites.unknown_enable_idle)),
     ((OTHER, "end"), (wrongcounts.entrycount, "assert_counts", wrongcounts.kept_counted)),
@@ -599,7 +599,7 @@ class Reduced(unittest.TestCase):
 
     def test_smallest(self):
         """No case of fewer accesses with bits 0, 1 and X parts."""
-        for wrong, left in ((wrongreads.unknown_enable_as_1, 2), (wrongorders.unknown_address_as_1, 2),
+        for wrong, left in ((wrongreads.unknown_enable_as_1, 2), (wrongswings.unknown_address_as_1, 2),
                             (wrongreads.forgets_held_word, 3)):
             parts = parting((Memory, "read", wrong))
             data = next(data for data in ACCEPTED() if parts.test(data))

@@ -22,7 +22,7 @@ import casetext
 import orders
 import randompairs
 import sharper
-import wrongorders
+import wrongswings
 from calls import ASSERT, CHECK, READ
 from casefile import ONE, X, ZERO, CaseFile
 from diagrams import FALSE, TRUE, Diagrams, NotACondition, TooLarge
@@ -254,7 +254,7 @@ class Orders(unittest.TestCase):
         counts = Counter()
         for number, pair in enumerate(random_pairs(120, 0)):
             right = texts(pair)
-            with planted(*wrongorders.SWINGING[number % len(wrongorders.SWINGING)]):
+            with planted(*wrongswings.SWINGING[number % len(wrongswings.SWINGING)]):
                 wrong = texts(pair)
             for printed in (right, wrong, right[::-1], [wrong[0], right[1]], without_unknown(right)):
                 counts[self.expect_as_defined(pair, printed)] += 1
@@ -296,14 +296,14 @@ class Orders(unittest.TestCase):
 
     def test_wrong_simulators_swing(self):
         """Each that loses or invents what is known is found out without a reference, by the cases the tool makes."""
-        for place, name, wrong in wrongorders.SWINGING:
+        for place, name, wrong in wrongswings.SWINGING:
             with planted(place, name, wrong):
                 self.assertTrue(any(orders.judge(pair, texts(pair)).verdict == orders.SWINGS
                                     for pair in random_pairs(120, 0) if pair.whole == TRUE), wrong.__name__)
 
     def test_wrong_simulators_that_keep_it(self):
         """The order says nothing against a wrong simulator of which no answer swings."""
-        for place, name, wrong in wrongorders.KEEPING:
+        for place, name, wrong in wrongswings.KEEPING:
             with planted(place, name, wrong):
                 self.assertFalse(any(orders.judge(pair, texts(pair)).verdict == orders.SWINGS
                                      for pair in random_pairs(120, 0)), wrong.__name__)

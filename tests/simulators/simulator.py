@@ -16,8 +16,8 @@ sys.path.insert(0, os.path.join(os.path.dirname(os.path.abspath(__file__)), os.p
 import rooms  # noqa: F401
 import entrycount
 import wrongcounts
-import wrongorders
 import wrongreads
+import wrongswings
 import wrongwrites
 from calls import Memory
 from reference import memcase
@@ -151,7 +151,7 @@ WRONG = {
 }
 
 # Those by which an answer swings when an X becomes known, each by the name of its wrong function.
-WRONG.update({wrong[2].__name__.replace("_", "-"): wrong for wrong in wrongorders.SWINGING})
+WRONG.update({wrong[2].__name__.replace("_", "-"): wrong for wrong in wrongswings.SWINGING})
 
 WAYS = [right, loses_unknown, hangs, hangs_after_text, hangs_with_output_closed, hangs_where_idle, leaves_child,
         ends_by_signal, ends_with_status, ends_with_status_after_text, ends_where_idle, writes_without_end, complains,
