@@ -1188,20 +1188,9 @@ def random_line(rng, kinds=(WRITE, READ, ASSERT, CHECK)):
 
 # The conditions of a formula: And of the enclosing ones, outermost first, in the order of the text.
 
-FORMULA = b"N(b2 -> b3 -> b4 -> m0) & (b3 -> b4 -> m1)"
+FORMULAS = [b"N(b2 -> b3 -> b4 -> m0) & (b3 -> b4 -> m1)", b"b4 -> b3 -> b2 -> m0"]
 PREDICATES = [1, 0, 1, 1, 0, 1, 0, 1, 0, 1, 1, 0, 1, 0, 1, 1, 1]
 EXAMPLES = os.path.join(ROOT, "crates", "formula_calls", "specs", "Examples.antt")
-
-
-def at_its_access(right, call, listed, left):
-    """Each condition is built with its access, and not before."""
-    made = 0
-    for step, condition, predicate in listed:
-        left, one = right(call, [(step, condition, predicate)], left)
-        if left.number:
-            return left, made
-        made += one
-    return left, made
 
 
 def with_further(further):
@@ -1243,7 +1232,6 @@ def in_one_step(_right, reading, nodes, capacity):
         tables.append(outer & conditions.tables[arrow.node])
     for place, table in enumerate(tables):
         if place in used:
-            conditions.ite(conditions.true, conditions.true, 0)
             make_parts(conditions, table)
     return [conditions.numbers.get(table, 0) for table in tables], conditions
 
@@ -1265,23 +1253,26 @@ def wrong_formulas():
             yield "And by %s" % ", ".join(map(step_text, program)), "arrow_conditions", with_further(program)
 
 
-def formula_left():
-    """What the computed call by a formula leaves, lent plenty."""
+def formula_left(text):
+    """What an assert by a formula leaves, lent plenty."""
     nodes = halves(TERMINALS) + halves(VARIABLES) + [7] * 120
-    call = Call(ASSERT_FORMULA, data=[5] * 7, text=FORMULA, table=PREDICATES)
+    call = Call(ASSERT_FORMULA, data=[5] * 7, text=text, table=PREDICATES)
     return calls.run(call, Record(1, 2, 5, 0, 1, 1), nodes, [5] * 17, [7])
 
 
 def untold_formulas():
-    """The wrong orders of a formula's conditions that the computed call does not tell, and how many there are."""
+    """The wrong orders of a formula's conditions that no computed call tells, and how many there are."""
     with open(EXAMPLES, encoding="utf-8") as file:
-        text = " ".join(file.read().split())
-    assert " ∷ ".join(map(str, FORMULA[:-2])) in text, "the formula of %s is another one" % EXAMPLES
-    right, found, many = formula_left(), [], 0
+        examples = " ".join(file.read().split())
+    right = {text: formula_left(text) for text in FORMULAS}
+    for text in FORMULAS:
+        # A digit of the first is its argument there.
+        assert " ∷ ".join(map(str, text[:-2])) in examples, "%s has no such formula: %s" % (EXAMPLES, text)
+    found, many = [], 0
     for name, of, wrong in wrong_formulas():
         many += 1
         with planted(calls, of, wrong):
-            if formula_left() == right:
+            if all(formula_left(text) == right[text] for text in FORMULAS):
                 found.append(name)
     return found, many
 

@@ -21,6 +21,7 @@ formulas-by-hand =
       one-node-less = refl;
       answer-short = refl;
       unfinished = refl;
+      outermost-first = refl;
       node-of-the-text = refl;
       third-and-fourth = refl;
       checks = refl;

@@ -40,6 +40,8 @@ pub record FormulasByHand : Type 0 where
   pub answer-short : Gives asserting (nested 49) predicates (replicate 5 5) (memory 5 0 1 1 (replicate 6 7) (replicate 17 5)) (refusedBy 13) (memory 5 0 1 1 (replicate 6 7) (replicate 17 5)) (replicate 5 5)
   -- and with `m2`, "an unfinished last one is unread", 15 before that, at its letter
   pub unfinished : Gives asserting (nested 50) predicates (replicate 5 5) (memory 5 0 1 1 (replicate 6 7) (replicate 17 5)) (faulty 15 39) (memory 5 0 1 1 (replicate 6 7) (replicate 17 5)) (replicate 5 5)
+  -- `b4 -> b3 -> b2 -> m0`, lent words for its conditions alone: And(4, 3), then And with 2; innermost first would make And(3, 2)
+  pub outermost-first : Gives asserting (98 ∷ 52 ∷ 32 ∷ 45 ∷ 62 ∷ 32 ∷ 98 ∷ 51 ∷ 32 ∷ 45 ∷ 62 ∷ 32 ∷ 98 ∷ 50 ∷ 32 ∷ 45 ∷ 62 ∷ 32 ∷ 109 ∷ 48 ∷ []) predicates (replicate 4 5) (memory 5 0 1 1 (replicate 6 7) (replicate 8 5)) (stopped 9 1 0) (memory 7 0 1 1 (9 ∷ 0 ∷ 4 ∷ 8 ∷ 0 ∷ 5 ∷ []) (replicate 8 5)) (0 ∷ 6 ∷ 0 ∷ 5 ∷ [])
   -- `(b2 -> b3 -> m0) & (b5 -> m1)`: And(2, 3) would be node 5; it is not there when the text is read
   pub node-of-the-text : Gives asserting (40 ∷ 98 ∷ 50 ∷ 32 ∷ 45 ∷ 62 ∷ 32 ∷ 98 ∷ 51 ∷ 32 ∷ 45 ∷ 62 ∷ 32 ∷ 109 ∷ 48 ∷ 41 ∷ 32 ∷ 38 ∷ 32 ∷ 40 ∷ 98 ∷ 53 ∷ 32 ∷ 45 ∷ 62 ∷ 32 ∷ 109 ∷ 49 ∷ 41 ∷ []) predicates (replicate 6 5) (memory 5 0 1 1 (replicate 6 7) (replicate 17 5)) (faulty 15 20) (memory 5 0 1 1 (replicate 6 7) (replicate 17 5)) (replicate 6 5)
   -- `N N(b3 -> m2) & m3`: the entries have the words of the fourth predicate and of the third, this one under node 3
