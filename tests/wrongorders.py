@@ -225,19 +225,17 @@ def of_building(kind):
 # Skips.
 
 def skips(sites, asked):
-    """For each argument that an operation may not ask for, all that nothing else needs, and each site of it alone; for
+    """For each argument that an operation may not ask for, all that nothing else needs, and the sites near it alone; for
     each operation that several ask for, where none does; and all at once.  `asked` are the sites that give the argument
     at a site and a place."""
     given = defaultdict(set)
     for (site, _), inner in asked.items():
         given[site] |= inner
 
-    def below(rules):
-        """The sites that may be needed no more."""
-        found = set().union(*(asked[site, place] for site, place, _ in rules))
-        while not found.issuperset(deeper := set().union(*(given[site] for site in found if site in given))):
-            found |= deeper
-        return found
+    def near(site, place):
+        """The sites that give an argument, and those that give theirs."""
+        first = asked[site, place]
+        return sorted(first.union(*(given.get(one, ()) for one in first)))
 
     for way in ("rule", "answer"):
         asking = defaultdict(set)
@@ -247,7 +245,7 @@ def skips(sites, asked):
             rules = frozenset([(site, place, way)])
             where = "`%s` needs no argument %d by its %s" % (site, place, way)
             yield "nothing where %s" % where, skipping(rules)
-            for one in sorted(below(rules) if way == "rule" else inner):
+            for one in near(site, place) if way == "rule" else sorted(inner):
                 yield "no `%s` where %s" % (one, where), skipping(rules, one)
         for one, rules in asking.items():
             wider = rules.union(*(asking.get(site, ()) for site, _, _ in rules))
