@@ -437,20 +437,21 @@ def list_text(words):
 
 
 def text_of(line):
-    """A call over the nodes `users` as the table has it, by what the second program leaves."""
+    """A call over the nodes `users` and further ones as the table has it, by what the second program leaves."""
     left = left_by_calls(line)
     size = entry_size(line.n, line.w)
-    before = "(recordOf %d %d 5 %d %d %d)" % (line.n, line.w, len(line.entries) // size, line.asserted, line.checked)
+    before = "(recordOf %s)" % " ".join(map(str, state_of(line, 0)[0]))
     after = "(recordOf %s)" % " ".join(map(str, left.record))
+    more = list_text(halves(line.nodes[3:]))
     made, entries = list_text(made_by_calls(line)), list_text(line.entries)
     if line.kind == READ:
-        return " ".join(("reads", before, after, entries, list_text(line.held), list_text(line.control),
+        return " ".join(("reads", before, after, more, entries, list_text(line.held), list_text(line.control),
                          list_text(line.address), made, list_text(left.data)))
     control = list_text(line.control) if line.kind == WRITE else str(line.control[0])
     name = next(name for name, kind in KINDS.items() if kind == line.kind)
     call = "(%s)" % " ".join((name, control, list_text(line.address), list_text(line.data)))
     if left.record.entries * size == len(line.entries):
-        return " ".join(("stays", before, after, entries, call, made, "kept" if line.kind == ASSERT else "accepted"))
+        return " ".join(("stays", before, after, more, entries, call, made, "kept" if line.kind == ASSERT else "accepted"))
     entry = list_text(left.list[len(line.entries):len(line.entries) + size])
-    return " ".join(("adds", before, after, entries, call, made, entry,
+    return " ".join(("adds", before, after, more, entries, call, made, entry,
                      "(place %d)" % left.out if line.kind == WRITE else "entered"))

@@ -1,7 +1,7 @@
 #!/usr/bin/env python3
 """Wrong orders of building: each means what the right one means, and makes other nodes or makes them in another order.
 
-    python3 tests/wrongorders.py [--calls N] [--seed N] [--equal] [--lines N]
+    python3 tests/wrongorders.py [--calls N] [--seed N] [--equal]
 
 For every operation of the sentences of 01 and 02 about building there are the programs that skip it where the operation
 around it does not need it, that build it at another place, and that have equal operations in its place.  Each that some
@@ -11,7 +11,6 @@ the first time tells: a program that builds twice is one that builds earlier.
 
 --calls   how many random calls are tried for what no line tells
 --equal   lists the programs that no call told apart
---lines   finds so many calls that tell what no line tells, smallest first, and writes them as lines
 """
 
 import argparse
@@ -1319,6 +1318,11 @@ class Telling:
                 del left[name]
 
 
+def is_of_users(line):
+    """Whether a call is over the nodes of the table's own, so that it can be a line."""
+    return line.nodes[:3] == VARIABLES
+
+
 def main():
     parser = argparse.ArgumentParser(description="Wrong orders of building, and the lines that tell them.")
     parser.add_argument("--calls", type=int, default=60, help="random calls for what no line tells")
@@ -1331,7 +1335,7 @@ def main():
     for fault in faults:
         print("no line of the second program: %s" % fault)
     for name, line in telling.untold.items():
-        print("told by no line: %s\n    but by %s" % (name, line))
+        print("told by no line: %s\n    but by %s" % (name, buildorder.text_of(line) if is_of_users(line) else line))
     if options.equal:
         for name in telling.left():
             print("told by no call: %s" % name)
