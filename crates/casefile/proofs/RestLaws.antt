@@ -14,8 +14,10 @@ use Rattle.memory.specs.declared.Record.{Record}
 use Rattle.memory.specs.Contract.{stateOf}
 use Rattle.reading.specs.declared.Loaded.{Loaded}
 use Rattle.reading.specs.declared.Loaded.the-variants as loaded
-use Rattle.reading.specs.Sections.{Sections, sectionsOf, firstRecord, sections}
-use Rattle.reading.proofs.SectionLaws.{sections-ready, sections-valid, sections-ports-valid}
+use Rattle.format.specs.Sections.{Sections, firstRecord, sections}
+use Rattle.format.proofs.SectionLaws.{sections-valid, sections-ports-valid}
+use Rattle.reading.specs.Contract.{sectionsOf}
+use Rattle.reading.proofs.FindLaws.{sections-ready}
 use Rattle.conditions.proofs.Promises.{zeros-sound}
 use Rattle.cases.proofs.LastLaws.{last-left, last-printed}
 use Rattle.entering.specs.declared.Run.{Run}

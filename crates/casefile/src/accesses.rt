@@ -21,7 +21,7 @@ fn finish(file: &[u8], buf: &mut [u8], c: Run, after: u32) -> CaseAnswer
     if c.at < file.len() {
         return CaseAnswer::Refused { number: 12, after };
     }
-    let t = lines::put_end(buf, c.text, memory.entries);
+    let t = printing::put_end(buf, c.text, memory.entries);
     if t.full {
         CaseAnswer::Refused { number: 13, after }
     } else {

@@ -44,7 +44,7 @@ pub fn print_case(case: &[u8], words: &mut [u32], list: &mut [u32], text: &mut [
             full: false,
         },
         CaseAnswer::Refused { number, after } => {
-            lines::put_refused(text, Text { at: 0, full: false }, number, after)
+            printing::put_refused(text, Text { at: 0, full: false }, number, after)
         }
     }
 }

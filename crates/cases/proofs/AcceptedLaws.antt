@@ -10,7 +10,7 @@ use Rattle.text.specs.Text.{Out, appended}
 use Rattle.text.proofs.TextLaws.{appended-append, appended-full, appended-fits}
 use Rattle.lines.specs.Lines.{endLine}
 use Rattle.model.specs.Step.{step, run, AllAccepted}
-use Rattle.reading.specs.Sections.{Sections, sections, accessesIn}
+use Rattle.format.specs.Sections.{Sections, sections, accessesIn}
 use Rattle.cases.specs.Case.{lineOf, Running, Next, ended, stopped, after, rest, afterSections, whole, accepts, Case}
 use Rattle.cases.specs.Claims.{callsFrom, endFrom, callsIn, stateIn, linesOf, SectionsReady, AllStand, CaseAccepted}
 use Rattle.cases.proofs.LastLaws.{last-printed}

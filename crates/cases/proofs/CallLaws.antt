@@ -2,7 +2,7 @@
 use mathlib.Core.Path.{_≡_, refl}
 use mathlib.Core.List.{[], _∷_}
 use Rattle.model.specs.Step.{write, read, assert, check, access}
-use Rattle.reading.specs.declared.Kind.the-variants as kind
+use Rattle.format.specs.declared.Kind.the-variants as kind
 use Rattle.cases.specs.Case.{callOf}
 
 -- one access of each kind, for n = 1 and w = 2

@@ -19,10 +19,10 @@ use Rattle.model.specs.Frames.{SuccessLeaves}
 use Rattle.model.specs.Claims.{Begins, Demand3}
 use Rattle.model.proofs.FrameLaws.{success-leaves}
 use Rattle.model.proofs.Demand3.{demand3}
-use Rattle.reading.specs.Sections.{Sections, ready, firstRecord, sections, accessesIn, firstAt}
-use Rattle.reading.specs.Sections as sections
-use Rattle.reading.proofs.AccessLaws.{access-lies}
-use Rattle.reading.proofs.SectionLaws.{sections-read, sections-begin}
+use Rattle.format.specs.Sections.{Sections, ready, firstRecord, sections, accessesIn, firstAt}
+use Rattle.format.specs.Sections as sections
+use Rattle.format.proofs.AccessLaws.{access-lies}
+use Rattle.format.proofs.SectionLaws.{sections-read, sections-begin}
 use Rattle.cases.specs.Case.{Running, Next, one, Ended, ended, stopped, last, after, rest, afterSections, whole, accepts, Case, closed, caseOf}
 use Rattle.cases.specs.Claims.{Printed, callsFrom, endFrom, callsIn, stateIn, linesOf, SectionsReady, AllStand, CaseText, CaseExactly}
 use Rattle.cases.proofs.LastLaws.{last-left, last-printed}

@@ -15,11 +15,11 @@ use Rattle.model.specs.Access.{uniqueBit, Unique, Certain, Write, narrowBit, Na
 use Rattle.model.specs.Rows.{row1, row3, portsRow}
 use Rattle.model.specs.Step.{unlessFull, enter, finishWrite, finishAccess, step}
 use Rattle.model.specs.Step as model
-use Rattle.reading.specs.Bytes.{numberAt, numbersAt}
-use Rattle.reading.specs.Kinds.{kindOf, sizeOf, leadOf, portOf}
-use Rattle.reading.specs.Accesses.{accessAt}
-use Rattle.reading.specs.Sections.{withNodes, sections}
-use Rattle.reading.proofs.ExampleLaws.{example}
+use Rattle.format.specs.Bytes.{numberAt, numbersAt}
+use Rattle.format.specs.Kinds.{kindOf, sizeOf, leadOf, portOf}
+use Rattle.format.specs.Accesses.{accessAt}
+use Rattle.format.specs.Sections.{withNodes, sections}
+use Rattle.format.proofs.ExampleLaws.{example}
 use Rattle.cases.specs.Case.{callOf, done, one, rest, last, whole, accepts, caseOf}
 
 -- what a case answers and leaves of its text bytes, lent 16 nodes' words, two entries' and two bytes more than these lines, all 7: this record, and the lines

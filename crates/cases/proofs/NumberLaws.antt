@@ -16,17 +16,17 @@ use Rattle.model.specs.Frames.{Valid, RefusalNumber, NoRow123, RefusedByRow, la
 use Rattle.model.proofs.ListLaws.{part-size}
 use Rattle.model.proofs.FrameLaws.{refusal-number, no-row-123}
 use Rattle.model.proofs.StayLaws.{refused-by-row}
-use Rattle.reading.specs.declared.Kind.{Kind}
-use Rattle.reading.specs.declared.Kind.the-variants as kind
-use Rattle.reading.specs.Bytes.{numbersAt}
-use Rattle.reading.specs.Kinds.{sizeOf}
-use Rattle.reading.specs.Accesses.{Found, found, kindAt, nodesAt, accessRows, foundUnless, accessAt, portIn}
-use Rattle.reading.specs.Accesses as accesses
-use Rattle.reading.specs.Sections.{Sections, ready, recordIn, nodesIn, earlyRows, lateRows, sectionsUnless, sections, accessesIn, firstAt}
-use Rattle.reading.specs.Sections as sections
-use Rattle.reading.proofs.BytesLaws.{numbers-length}
-use Rattle.reading.proofs.RowLaws.{rows-number}
-use Rattle.reading.proofs.SectionLaws.{sections-read, sections-valid, sections-ports-valid}
+use Rattle.format.specs.declared.Kind.{Kind}
+use Rattle.format.specs.declared.Kind.the-variants as kind
+use Rattle.format.specs.Bytes.{numbersAt}
+use Rattle.format.specs.Kinds.{sizeOf}
+use Rattle.format.specs.Accesses.{Found, found, kindAt, nodesAt, accessRows, foundUnless, accessAt, portIn}
+use Rattle.format.specs.Accesses as accesses
+use Rattle.format.specs.Sections.{Sections, ready, recordIn, nodesIn, earlyRows, lateRows, sectionsUnless, sections, accessesIn, firstAt}
+use Rattle.format.specs.Sections as sections
+use Rattle.format.proofs.BytesLaws.{numbers-length}
+use Rattle.format.proofs.RowLaws.{rows-number}
+use Rattle.format.proofs.SectionLaws.{sections-read, sections-valid, sections-ports-valid}
 use Rattle.cases.specs.Case.{callOf}
 use Rattle.cases.specs.Claims.{stateIn, SectionsReady, firstCalls, byteAfter, answerAfter, RefusedAt, missing, refusedCall, lineOver, bytesLeft, endOver, CaseRefused, CaseNumber, RefusedNumbers}
 use Rattle.cases.proofs.CaseLaws.{same-sizes}

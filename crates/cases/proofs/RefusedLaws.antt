@@ -13,11 +13,11 @@ use Rattle.text.proofs.TextLaws.{appended-append, appended-is-full}
 use Rattle.lines.specs.Lines.{endLine}
 use Rattle.model.specs.Step.{accepted, isRefused, step, run, AllAccepted}
 use Rattle.model.specs.Step as model
-use Rattle.reading.specs.Accesses.{accessAt}
-use Rattle.reading.specs.Accesses as accesses
-use Rattle.reading.specs.Sections.{Sections, ready, sections, accessesIn, firstAt}
-use Rattle.reading.specs.Sections as sections
-use Rattle.reading.proofs.SectionLaws.{sections-read}
+use Rattle.format.specs.Accesses.{accessAt}
+use Rattle.format.specs.Accesses as accesses
+use Rattle.format.specs.Sections.{Sections, ready, sections, accessesIn, firstAt}
+use Rattle.format.specs.Sections as sections
+use Rattle.format.proofs.SectionLaws.{sections-read}
 use Rattle.cases.specs.Case.{lineOf, Running, Next, stops, one, Ended, ended, stopped, last, after, rest, afterSections, whole, refuses, zeroed, closed, caseOf}
 use Rattle.cases.specs.Claims.{callAt, callsFrom, endFrom, stateIn, linesOf, SectionsReady, StandsAt, AllStand, accessLines, firstCalls, RefusedAt, missing, refusedCall, lineOver, bytesLeft, endOver, Zeroed, RefusedAfter, CaseRefused}
 use Rattle.cases.proofs.LastLaws.{last-left, last-printed}

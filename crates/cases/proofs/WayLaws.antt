@@ -7,10 +7,10 @@ use native.Mathlib.Omega.{arith}
 use Rattle.text.specs.Text.{Out, appended}
 use Rattle.model.specs.Step.{State, Call, Answer, isRefused, step}
 use Rattle.model.specs.Step as model
-use Rattle.reading.specs.declared.Kind.{Kind}
-use Rattle.reading.specs.Accesses.{Found, found, endOf, accessAt, goesOnFrom}
-use Rattle.reading.specs.Accesses as accesses
-use Rattle.reading.proofs.AccessLaws.{access-lies}
+use Rattle.format.specs.declared.Kind.{Kind}
+use Rattle.format.specs.Accesses.{Found, found, endOf, accessAt, goesOnFrom}
+use Rattle.format.specs.Accesses as accesses
+use Rattle.format.proofs.AccessLaws.{access-lies}
 use Rattle.cases.specs.Case.{lineOf, Running, goes, stops, printed, said, doneAs, done, one}
 use Rattle.cases.specs.Claims.{callAt, StandsAt}
 

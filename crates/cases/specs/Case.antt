@@ -9,14 +9,14 @@ use Rattle.lines.specs.Lines.{writeLine, idleLine, readLine, assertLine, checkL
 use Rattle.model.specs.Record.{Record, part, freshPorts}
 use Rattle.model.specs.Step.{State, write, read, assert, check, evaluate, Call, access, nodeCall, Given, place, idle, filled, entered, kept, accepted, valued, node, triples, Answer, step}
 use Rattle.model.specs.Step as step
-use Rattle.reading.specs.declared.Kind.{Kind}
-use Rattle.reading.specs.declared.Kind.the-variants as kind
-use Rattle.reading.specs.Bytes.{numbersAt}
-use Rattle.reading.specs.Kinds.{sizeOf}
-use Rattle.reading.specs.Accesses.{Found, found, accessAt, goesOn}
-use Rattle.reading.specs.Accesses as accesses
-use Rattle.reading.specs.Sections.{Sections, ready, firstRecord, sections}
-use Rattle.reading.specs.Sections as sections
+use Rattle.format.specs.declared.Kind.{Kind}
+use Rattle.format.specs.declared.Kind.the-variants as kind
+use Rattle.format.specs.Bytes.{numbersAt}
+use Rattle.format.specs.Kinds.{sizeOf}
+use Rattle.format.specs.Accesses.{Found, found, accessAt, goesOn}
+use Rattle.format.specs.Accesses as accesses
+use Rattle.format.specs.Sections.{Sections, ready, firstRecord, sections}
+use Rattle.format.specs.Sections as sections
 
 -- "Then the control pair (b alone for 3 and 4), address, data (none for a read)": the call with these nodes, of a read at its port. A read is lent words of its own. No access of an unknown kind is found
 unfoldable pub callOf : Kind → ℕ → ℕ → ℕ → List ℕ → Call

@@ -15,12 +15,12 @@ use Rattle.model.specs.Array.{Run, observed, Allowed}
 use Rattle.model.specs.Claims.{fed, events, Exactly}
 use Rattle.model.specs.Table.{NeverOne, MayBeOne}
 use Rattle.model.specs.Count.{entryCount, DiffersUnder}
-use Rattle.reading.specs.Bytes.{numbersAt}
-use Rattle.reading.specs.Kinds.{sizeOf}
-use Rattle.reading.specs.Accesses.{found, kindAt, nodesAt, endOf, accessAt, portIn}
-use Rattle.reading.specs.Accesses as accesses
-use Rattle.reading.specs.Sections.{nodesIn, accessesIn, firstAt, recordIn, stored, ready, sections}
-use Rattle.reading.specs.Sections as sections
+use Rattle.format.specs.Bytes.{numbersAt}
+use Rattle.format.specs.Kinds.{sizeOf}
+use Rattle.format.specs.Accesses.{found, kindAt, nodesAt, endOf, accessAt, portIn}
+use Rattle.format.specs.Accesses as accesses
+use Rattle.format.specs.Sections.{nodesIn, accessesIn, firstAt, recordIn, stored, ready, sections}
+use Rattle.format.specs.Sections as sections
 use Rattle.cases.specs.Case.{callOf, lineOf, accepts, refuses, Case, caseOf, outputOf, bytesOf}
 
 -- the call whose kind byte stands at a place, for n and w

@@ -2,12 +2,13 @@
 use mathlib.Core.Path.{_≡_, sym, ap, subst, _∙_}
 use mathlib.Core.List.{List}
 use Prim.Native.Nat.{ℕ}
-use Rattle.reading.specs.declared.Kind.{Kind}
+use Rattle.format.specs.declared.Kind.{Kind}
 use Rattle.reading.specs.declared.Progress.{Progress}
 use Rattle.reading.specs.declared.Access.the-variants as access
-use Rattle.reading.specs.Bytes.{numbersAt}
-use Rattle.reading.specs.Kinds.{sizeOf}
-use Rattle.reading.specs.Accesses.{Found, foundOf, accessAt, goesOn, Finds}
+use Rattle.format.specs.Bytes.{numbersAt}
+use Rattle.format.specs.Kinds.{sizeOf}
+use Rattle.format.specs.Accesses.{Found, accessAt, goesOn}
+use Rattle.reading.specs.Contract.{foundOf, Finds}
 use Rattle.cases.specs.Case.{Running, stops, callOf, done, doneAs, one, Next, goes, said, givenLine}
 use Rattle.entering.specs.declared.Step.{Step}
 use Rattle.entering.specs.Contract.{StepAs, nextOf, PortsReadyNext}

@@ -4,7 +4,7 @@ ghost use mathlib.Core.List.{List};
 ghost use Prim.Native.Nat.{ℕ, _+_, _*_};
 ghost use lib.ListN.{length};
 ghost use Rattle.text.specs.Text.{out};
-ghost use Rattle.reading.specs.declared.Kind.the-variants as kinds;
+ghost use Rattle.format.specs.declared.Kind.the-variants as kinds;
 ghost use Rattle.memory.specs.Contract.{stateOf};
 ghost use Rattle.cases.specs.Case.{callOf, done};
 ghost use Rattle.entering.specs.Contract.{printedAs, Ready, StepAs};
@@ -59,11 +59,11 @@ pub fn do_write(
     let answer = r.answer;
     match answer {
         WriteAnswer::Entered(place) => {
-            let t = lines::put_write(buf, c.text, place);
+            let t = printing::put_write(buf, c.text, place);
             printed(after, t, c.at)
         }
         WriteAnswer::Idle => {
-            let t = lines::put_idle(buf, c.text);
+            let t = printing::put_idle(buf, c.text);
             printed(after, t, c.at)
         }
         WriteAnswer::Refused(k) => Step::Refused(k),
@@ -97,11 +97,11 @@ pub fn do_assert(
     let answer = r.answer;
     match answer {
         AssertAnswer::Entered => {
-            let t = lines::put_assert(buf, c.text, words, after.count, true, after.asserted);
+            let t = printing::put_assert(buf, c.text, words, after.count, true, after.asserted);
             printed(after, t, c.at)
         }
         AssertAnswer::Kept => {
-            let t = lines::put_assert(buf, c.text, words, after.count, false, after.asserted);
+            let t = printing::put_assert(buf, c.text, words, after.count, false, after.asserted);
             printed(after, t, c.at)
         }
         AssertAnswer::Refused(k) => Step::Refused(k),

@@ -1,8 +1,8 @@
 -- Demand 2, of the lines: they are the same bytes exactly when the conditions in them agree under every assignment, and those of writes when they say the same.
-use mathlib.Core.Path.{_≡_, refl, sym, ap, subst}
+use mathlib.Core.Path.{_≡_, refl, sym, ap, subst, _∙_}
 use mathlib.Core.Bool.{Bool, true, false}
 use mathlib.Core.List.{List, [], _∷_, _++_, append-assoc}
-use Prim.Native.Nat.{ℕ, zero, suc, _+_, _*_, _/_, _<_}
+use Prim.Native.Nat.{ℕ, zero, suc, _+_, _*_, _-_, _/_, _<_}
 use native.Mathlib.Omega.{arith}
 use borrow.Author.Tests.{ltb-true, ltb-false, eqb-true, eqb-false}
 use lib.Dec.{ltb, eqb}
@@ -12,7 +12,7 @@ use Rattle.text.proofs.DecimalLaws.{digit-first, decimal-then}
 use Rattle.conditions.specs.Show.{textOf, Alike}
 use Rattle.conditions.proofs.Promises.{text-first, same-text, text-same}
 use Rattle.lines.specs.Lines.{writeWord, writeLine, idleLine, endWord, endLine, bitText, bitsText, readWord, readLine, assertWord, assertLine, checkWord, checkLine}
-use Rattle.lines.specs.Claims.{WriteLines, EndLines, Printed, PrintedWord, CheckLines, AssertLines, ReadLines}
+use Rattle.lines.specs.Claims.{WriteLines, EndLines, Printed, PrintedWord, CheckLines, AssertLines, ReadLines, inTurn, HighestFirst}
 
 -- conditions that are alike have the same text
 alike-text : {w w′ : List ℕ} {c c′ n n′ : ℕ} → Printed w c n → Printed w′ c′ n′ → Alike w n w′ n′ → textOf w n ≡ textOf w′ n′
@@ -116,3 +116,21 @@ read-lines w w′ c c′ k k′ word word′ p p′ = (tell, same)
     same : (k ≡ k′) × ((i : ℕ) → i < 2 * k → Alike w (getD word i 0) w′ (getD word′ i 0))
         → readWord ++ bitsText w word (length word / 2) ++ 10 ∷ [] ≡ readWord ++ bitsText w′ word′ (length word′ / 2) ++ 10 ∷ []
     same a = rw (bits (p .size), bits (p′ .size), ← a .0, bits-same w w′ word word′ k (halves (a .0) (a .1)))
+
+-- texts in turn that are the same one by one
+in-turn-same : (k : ℕ) (f g : ℕ → List ℕ) → ((i : ℕ) → f i ≡ g i) → inTurn k f ≡ inTurn k g
+in-turn-same zero f g e = refl
+in-turn-same (suc k) f g e = rw (e 0, in-turn-same k (λ i. f (suc i)) (λ i. g (suc i)) (λ i. e (suc i)))
+
+bits-in-turn : (w word : List ℕ) (k : ℕ) → bitsText w word k ≡ inTurn k (λ i. bitText w (getD word (2 * (k - 1 - i)) 0) (getD word (2 * (k - 1 - i) + 1) 0))
+unfolding bitsText
+bits-in-turn w word zero = refl
+bits-in-turn w word (suc k) =
+    let bit : ℕ → List ℕ = λ j. bitText w (getD word (2 * j) 0) (getD word (2 * j + 1) 0) in
+    let first : k ≡ suc k - 1 - 0 = omega arith in
+    ap (λ (l : List ℕ). bit k ++ l) (bits-in-turn w word k ∙ in-turn-same k (λ i. bit (k - 1 - i)) (λ i. bit (suc k - 1 - suc i)) (λ i. let e : k - 1 - i ≡ suc k - 1 - suc i = omega arith in ap bit e))
+    ∙ ap (λ (j : ℕ). bit j ++ inTurn k (λ i. bit (suc k - 1 - suc i))) first
+
+pub highest-first : HighestFirst
+unfolding HighestFirst readLine
+highest-first w word k e = let h : length word / 2 ≡ k = omega arith in rw (h, bits-in-turn w word k)

@@ -3,12 +3,12 @@
 use mathlib.Core.Path.{_≡_}
 use mathlib.Core.Logic.{_↔_}
 use mathlib.Core.Bool.{Bool}
-use mathlib.Core.List.{List}
-use Prim.Native.Nat.{ℕ, _*_, _<_}
+use mathlib.Core.List.{List, [], _++_}
+use Prim.Native.Nat.{ℕ, zero, suc, _+_, _*_, _-_, _<_}
 use lib.ListN.{length, getD}
 use Rattle.nodes.specs.Standard.{Standard}
 use Rattle.conditions.specs.Show.{Alike}
-use Rattle.lines.specs.Lines.{writeLine, idleLine, endLine, checkLine, assertLine, readLine}
+use Rattle.lines.specs.Lines.{line, writeLine, idleLine, endLine, checkLine, assertLine, bitText, readWord, readLine}
 
 -- two write lines: the same place; and none is that of an idle write
 unfoldable pub WriteLines : Type 0
@@ -44,3 +44,13 @@ unfoldable pub ReadLines : Type 0
 ReadLines =
     (w w′ : List ℕ) (c c′ k k′ : ℕ) (word word′ : List ℕ) → PrintedWord w c word k → PrintedWord w′ c′ word′ k′
     → (readLine w word ≡ readLine w′ word′) ↔ ((k ≡ k′) × ((i : ℕ) → i < 2 * k → Alike w (getD word i 0) w′ (getD word′ i 0)))
+
+-- "for each bit, highest first": of k bits the one that is printed first is bit k - 1, the next bit k - 2, and on
+abbrev pub inTurn : ℕ → (ℕ → List ℕ) → List ℕ
+inTurn zero f = []
+inTurn (suc k) f = f 0 ++ inTurn k (λ i. f (suc i))
+
+unfoldable pub HighestFirst : Type 0
+HighestFirst =
+    (w word : List ℕ) (k : ℕ) → length word ≡ 2 * k
+    → readLine w word ≡ line (readWord ++ inTurn k (λ i. bitText w (getD word (2 * (k - 1 - i)) 0) (getD word (2 * (k - 1 - i) + 1) 0)))

@@ -4,7 +4,7 @@ ghost use Prim.Native.Nat.{ℕ, _+_, _*_};
 ghost use mathlib.Core.Path.{_≡_};
 ghost use lib.ListN.{length, replicate};
 ghost use Rattle.text.specs.Text.{out};
-ghost use Rattle.reading.specs.declared.Kind.the-variants as kinds;
+ghost use Rattle.format.specs.declared.Kind.the-variants as kinds;
 ghost use Rattle.model.specs.Frames.{PortsValid};
 ghost use Rattle.memory.specs.Contract.{stateOf};
 ghost use Rattle.cases.specs.Case.{callOf, done};
@@ -47,7 +47,7 @@ fn read_into(
     let answer = r.answer;
     match answer {
         ReadAnswer::Filled => {
-            let t = lines::put_read(buf, c.text, words, after.count, word);
+            let t = printing::put_read(buf, c.text, words, after.count, word);
             entering::printed(after, t, c.at)
         }
         ReadAnswer::Refused(k) => Step::Refused(k),
@@ -111,7 +111,7 @@ pub fn do_check(
     let answer = r.answer;
     match answer {
         CheckAnswer::Accepted => {
-            let t = lines::put_check(buf, c.text, words, after.count, after.checked);
+            let t = printing::put_check(buf, c.text, words, after.count, after.checked);
             entering::printed(after, t, c.at)
         }
         CheckAnswer::Refused(k) => Step::Refused(k),

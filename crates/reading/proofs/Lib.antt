@@ -1,6 +1,1 @@
-pub mod RowLaws
-pub mod BytesLaws
-pub mod KindLaws
-pub mod AccessLaws
-pub mod SectionLaws
-pub mod ExampleLaws
+pub mod FindLaws

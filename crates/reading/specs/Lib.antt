@@ -1,4 +1,1 @@
-pub mod Bytes
-pub mod Kinds
-pub mod Accesses
-pub mod Sections
+pub mod Contract

@@ -1,5 +1,5 @@
 // An access in its place of the file.
-ghost use Rattle.reading.specs.Accesses.{Finds};
+ghost use Rattle.reading.specs.Contract.{Finds};
 use super::Access;
 use super::Progress;
 use super::kinds;

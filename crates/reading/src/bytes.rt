@@ -2,7 +2,7 @@
 ghost use mathlib.Core.Path.{_≡_};
 ghost use Prim.Native.Nat.{_+_, _*_, _≤_};
 ghost use lib.ListN.{length};
-ghost use Rattle.reading.specs.Bytes.{numberAt, numbersAt};
+ghost use Rattle.format.specs.Bytes.{numberAt, numbersAt};
 
 // A byte as a number of 32 bits.
 pub fn wide(b: u8) -> u32

@@ -1,8 +1,8 @@
 // The kinds of accesses.
 ghost use mathlib.Core.Path.{_≡_};
 ghost use Prim.Native.Nat.{_+_, _*_, _≤_};
-ghost use Rattle.reading.specs.Kinds.{kindOf, isKnown, sizeOf, leadOf, portOf};
-use super::Kind;
+ghost use Rattle.format.specs.Kinds.{kindOf, isKnown, sizeOf, leadOf, portOf};
+use format::Kind;
 
 // The kind that a byte selects.
 pub fn kind_of(b: u8) -> Kind

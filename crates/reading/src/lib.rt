@@ -7,6 +7,7 @@ mod sections;
 
 pub use bytes::number_at;
 pub use bytes::read_numbers;
+pub use format::Kind;
 pub use kinds::address_end;
 pub use kinds::data_end;
 pub use kinds::kind_of;
@@ -17,15 +18,6 @@ pub use reader::access_at;
 pub use reader::begin;
 pub use reader::next;
 pub use sections::load_sections;
-
-// What the kind byte of an access selects.
-pub enum Kind {
-    Write,
-    Read,
-    Assert,
-    Check,
-    Unknown,
-}
 
 // An access in the file: its kind, its port, which a read alone has, and the byte where its nodes begin.
 pub enum Access {

@@ -1,6 +1,7 @@
 // A reading of a case file: a thin struct over the functions on slices.
 ghost use mathlib.Core.Path.{_≡_};
-ghost use Rattle.reading.specs.Accesses.{foundOf, accessAt, goesOn, Finds};
+ghost use Rattle.format.specs.Accesses.{accessAt, goesOn};
+ghost use Rattle.reading.specs.Contract.{foundOf, Finds};
 use super::Access;
 use super::Progress;
 use super::accesses;

@@ -9,13 +9,13 @@ use lib.ListN.{length, getD}
 use Rattle.conditions.specs.Assignment.{bitAt}
 use Rattle.model.specs.Record.{Record}
 use Rattle.model.specs.Rows.{firstRow}
-use Rattle.reading.specs.declared.Kind.{Kind}
-use Rattle.reading.specs.declared.Kind.the-variants as kind
-use Rattle.reading.specs.Kinds.{isKnown, sizeOf}
-use Rattle.reading.specs.Bytes.{numbersAt}
-use Rattle.reading.specs.Sections.{accessesIn, firstAt}
-use Rattle.reading.specs.Accesses.{found, foundUnless, kindAt, portIn, nodesAt, endOf, accessAt}
-use Rattle.reading.specs.Accesses as accesses
+use Rattle.format.specs.declared.Kind.{Kind}
+use Rattle.format.specs.declared.Kind.the-variants as kind
+use Rattle.format.specs.Kinds.{isKnown, sizeOf}
+use Rattle.format.specs.Bytes.{numbersAt}
+use Rattle.format.specs.Sections.{accessesIn, firstAt}
+use Rattle.format.specs.Accesses.{found, foundUnless, kindAt, portIn, nodesAt, endOf, accessAt}
+use Rattle.format.specs.Accesses as accesses
 use Rattle.cases.specs.Case.{callOf}
 use Rattle.cases.specs.Claims.{callsFrom, callsIn, stateIn, StandsAt, AllStand, CaseText}
 use Rattle.cases.proofs.CaseLaws.{case-text, case-begins, case-condition}

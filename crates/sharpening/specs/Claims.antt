@@ -19,7 +19,7 @@ use Rattle.model.specs.Claims.{events, May, HeldMay, CheckHolds, Begins}
 use Rattle.model.specs.Chain.{Link, Chained, lastState, eventsOf, MayBe, freshed}
 use Rattle.formula_calls.specs.Chain.{AnyLink, AllChained, lastOf, spelledOut}
 use Rattle.cases.specs.Case.{accepts, caseOf}
-use Rattle.reading.specs.Sections.{recordIn, stored}
+use Rattle.format.specs.Sections.{recordIn, stored}
 use Rattle.cases.specs.Claims.{callsIn, stateIn}
 use Rattle.sharpening.specs.Sharper.{Sharper, AllSharper, SharperAccess, SharperList, Matched}
 use Rattle.sharpening.specs.Replaced.{ReplacedCalls}

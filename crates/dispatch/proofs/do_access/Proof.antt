@@ -1,8 +1,8 @@
 use denote.Ref.{now}
 use Rattle.cases.specs.Case.{callOf}
 use Rattle.dispatch.proofs.UnknownLaws.{unknown-not}
-use Rattle.reading.proofs.KindLaws.{size-write, size-read, size-assert, size-check}
-use Rattle.reading.specs.Kinds.{sizeOf}
+use Rattle.format.proofs.KindLaws.{size-write, size-read, size-assert, size-check}
+use Rattle.format.specs.Kinds.{sizeOf}
 use mathlib.Core.Path.{ap, _∙_}
 use borrow.Author.Needs.{needs}
 use Rattle.dispatch.proofs.do_access.Statement.{statement}

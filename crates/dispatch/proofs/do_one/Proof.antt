@@ -1,7 +1,7 @@
 use Rattle.entering.proofs.WordLaws.{valid-ported}
 use Rattle.dispatch.proofs.OneLaws.{step-here, one-missing, step-ports}
-use Rattle.reading.proofs.AccessLaws.{access-here}
-use Rattle.reading.proofs.KindLaws.{size-most}
+use Rattle.reading.proofs.FindLaws.{access-here}
+use Rattle.format.proofs.KindLaws.{size-most}
 use Rattle.rows.proofs.CallLaws.{valid-few}
 use lib.ListN.{length-take}
 use native.Mathlib.Omega.{arith}

@@ -1,4 +1,4 @@
-use Rattle.reading.specs.Bytes.{numberAt}
+use Rattle.format.specs.Bytes.{numberAt}
 use native.Mathlib.Omega.{arith}
 use Prim.Native.Nat.{_+_}
 use borrow.Author.Needs.{needs}

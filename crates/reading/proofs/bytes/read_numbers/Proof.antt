@@ -1,4 +1,4 @@
-use Rattle.reading.proofs.BytesLaws.{filledTo, filled-none, filled-more, filled-all}
+use Rattle.format.proofs.BytesLaws.{filledTo, filled-none, filled-more, filled-all}
 use denote.Ref.{now}
 use borrow.Author.Needs.{needs}
 use lib.ListN.{length, length-set}

@@ -1,6 +1,6 @@
 use mathlib.Core.Path.{sym, ap}
-use Rattle.reading.specs.Kinds.{kindOf}
-use Rattle.reading.proofs.KindLaws.{kind-other}
+use Rattle.format.specs.Kinds.{kindOf}
+use Rattle.format.proofs.KindLaws.{kind-other}
 use Rattle.reading.proofs.kinds.kind_of.Statement.{statement}
 use Rattle.reading.proofs.kinds.kind_of.Tie as tie
 

@@ -1,4 +1,4 @@
-use Rattle.reading.specs.Kinds.{leadOf}
+use Rattle.format.specs.Kinds.{leadOf}
 use borrow.Author.Needs.{needs}
 use Rattle.reading.proofs.kinds.lead.Statement.{statement}
 use Rattle.reading.proofs.kinds.lead.Tie as tie

@@ -1,4 +1,4 @@
-use Rattle.reading.specs.Kinds.{sizeOf}
+use Rattle.format.specs.Kinds.{sizeOf}
 use borrow.Author.Needs.{needs}
 use Rattle.reading.proofs.kinds.operands.Statement.{statement}
 use Rattle.reading.proofs.kinds.operands.Tie as tie

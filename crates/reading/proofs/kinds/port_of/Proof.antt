@@ -1,4 +1,4 @@
-use Rattle.reading.specs.Kinds.{portOf}
+use Rattle.format.specs.Kinds.{portOf}
 use borrow.Author.Needs.{needs}
 use Rattle.reading.proofs.kinds.port_of.Statement.{statement}
 use Rattle.reading.proofs.kinds.port_of.Tie as tie

@@ -42,7 +42,8 @@ use denote.Triple.Table.{entered, cited}
 use denote.Triple.Walked.{says, Stays, stay-none-slice, stay-none, walkOf, goes-none-slice, goes-none, Walks, ends-at, walked, walk-meets}
 use denote.Exit.{yes}
 use denote.Triple.Clauses.{ensured, lasts}
-use Rattle.reading.specs.Accesses.{foundOf, accessAt, goesOn, Finds}
+use Rattle.format.specs.Accesses.{accessAt, goesOn}
+use Rattle.reading.specs.Contract.{foundOf, Finds}
 use Rattle.reading.specs.declared.reader.Reader.{Reader}
 use Rattle.reading.specs.declared.reader.Advance.{Advance}
 use Rattle.reading.specs.declared.Access.{Access}

@@ -1,6 +1,6 @@
 use native.Mathlib.Omega.{arith}
 use denote.Ref.{now}
-use Rattle.reading.proofs.SectionLaws.{no-head, out-of-range, no-count, nodes-missing, room, no-room}
+use Rattle.format.proofs.SectionLaws.{no-head, out-of-range, no-count, nodes-missing, room, no-room}
 use borrow.Author.Needs.{needs}
 use Rattle.reading.proofs.sections.early_row.Statement.{statement}
 use Rattle.reading.proofs.sections.early_row.Tie as tie

@@ -1,5 +1,5 @@
 use denote.Ref.{now}
-use Rattle.reading.proofs.SectionLaws.{room-is}
+use Rattle.format.proofs.SectionLaws.{room-is}
 use borrow.Author.Needs.{needs}
 use Rattle.reading.proofs.sections.has_room.Statement.{statement}
 use Rattle.reading.proofs.sections.has_room.Tie as tie

@@ -1,4 +1,4 @@
-use Rattle.reading.proofs.SectionLaws.{early-is, refused-early, not-standard, no-accesses, all-read}
+use Rattle.format.proofs.SectionLaws.{early-is, refused-early, not-standard, no-accesses, all-read}
 use denote.Ref.{now}
 use native.Mathlib.Omega.{arith}
 use mathlib.Core.Path.{sym, _∙_}

@@ -1,5 +1,5 @@
-use Rattle.reading.proofs.SectionLaws.{nodes-none, nodes-more}
-use Rattle.reading.specs.Sections.{withNodes}
+use Rattle.format.proofs.SectionLaws.{nodes-none, nodes-more}
+use Rattle.format.specs.Sections.{withNodes}
 use denote.Ref.{now}
 use borrow.Author.Needs.{needs}
 use lib.ListN.{length}

@@ -1,0 +1,6 @@
+pub mod RowLaws
+pub mod BytesLaws
+pub mod KindLaws
+pub mod AccessLaws
+pub mod SectionLaws
+pub mod ExampleLaws

@@ -1,0 +1,4 @@
+pub mod Bytes
+pub mod Kinds
+pub mod Accesses
+pub mod Sections
