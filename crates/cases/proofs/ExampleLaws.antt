@@ -16,7 +16,8 @@ use Rattle.model.specs.Rows.{row1, row3, portsRow}
 use Rattle.model.specs.Step.{unlessFull, enter, finishWrite, finishAccess, step}
 use Rattle.model.specs.Step as model
 use Rattle.format.specs.Bytes.{numberAt, numbersAt}
-use Rattle.format.specs.Kinds.{kindOf, sizeOf, leadOf, portOf}
+use Rattle.format.specs.Kinds.{kindOf}
+use Rattle.format.specs.Fields.{fieldsOf, fieldsEnd, valuesAt}
 use Rattle.format.specs.Accesses.{accessAt}
 use Rattle.format.specs.Sections.{withNodes, sections}
 use Rattle.format.proofs.ExampleLaws.{example}
@@ -102,5 +103,5 @@ unfolding
     put written text.appended decimal digits computing grow treeOf show
     writeLine idleLine bitText bitsText readLine assertWord assertLine checkLine endLine
     listCapacity appended replaced uniqueBit Unique Certain Write narrowBit Narrow halfStep EachHalf mergeHalf entryStep settleHalf Look holdHalf Read insideHalf Inside Check Assert
-    row1 row3 portsRow model.closed unlessFull enter finishWrite finishAccess step numberAt numbersAt kindOf sizeOf leadOf portOf accessAt withNodes sections callOf done one rest last whole caseOf
+    row1 row3 portsRow model.closed unlessFull enter finishWrite finishAccess step numberAt numbersAt kindOf fieldsOf fieldsEnd valuesAt accessAt withNodes sections callOf done one rest last whole caseOf
 examples-print = ((refl, refl), (refl, refl), (refl, refl), (refl, refl))

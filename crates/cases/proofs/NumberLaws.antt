@@ -9,18 +9,17 @@ use lib.Dec.{eqb, leb}
 use lib.ListN.{length, getD, replicate, length-replicate}
 use borrow.Author.Tests.{eqb-true, eq-eqb, leb-true}
 use Rattle.nodes.proofs.BoolLaws.{and-both, or-cases, both-and}
-use Rattle.model.specs.Record.{part, freshPorts}
+use Rattle.model.specs.Record.{freshPorts}
 use Rattle.model.specs.Rows.{Row, firstRow, writeRows, readRows, assertRows, checkRows, evaluateRows}
 use Rattle.model.specs.Step.{State, Call, refused, refusal, Finish, full, short, gives, finish, step, run, AllAccepted}
 use Rattle.model.specs.Frames.{Valid, RefusalNumber, NoRow123, RefusedByRow, lateRow, PortsValid, numbers}
-use Rattle.model.proofs.ListLaws.{part-size}
 use Rattle.model.proofs.FrameLaws.{refusal-number, no-row-123}
 use Rattle.model.proofs.StayLaws.{refused-by-row}
 use Rattle.format.specs.declared.Kind.{Kind}
 use Rattle.format.specs.declared.Kind.the-variants as kind
 use Rattle.format.specs.Bytes.{numbersAt}
-use Rattle.format.specs.Kinds.{sizeOf}
-use Rattle.format.specs.Accesses.{Found, found, kindAt, nodesAt, accessRows, foundUnless, accessAt, portIn}
+use Rattle.format.specs.Fields.{fieldsOf, valuesAt}
+use Rattle.format.specs.Accesses.{Found, found, kindAt, heldAt, accessRows, foundUnless, accessAt}
 use Rattle.format.specs.Accesses as accesses
 use Rattle.format.specs.Sections.{Sections, ready, recordIn, nodesIn, earlyRows, lateRows, sectionsUnless, sections, accessesIn, firstAt}
 use Rattle.format.specs.Sections as sections
@@ -28,7 +27,7 @@ use Rattle.format.proofs.BytesLaws.{numbers-length}
 use Rattle.format.proofs.RowLaws.{rows-number}
 use Rattle.format.proofs.SectionLaws.{sections-read, sections-valid, sections-ports-valid}
 use Rattle.cases.specs.Case.{callOf}
-use Rattle.cases.specs.Claims.{stateIn, SectionsReady, firstCalls, byteAfter, answerAfter, RefusedAt, missing, refusedCall, lineOver, bytesLeft, endOver, CaseRefused, CaseNumber, RefusedNumbers}
+use Rattle.cases.specs.Claims.{callAt, stateIn, SectionsReady, firstCalls, byteAfter, answerAfter, RefusedAt, missing, refusedCall, lineOver, bytesLeft, endOver, CaseRefused, CaseNumber, RefusedNumbers}
 use Rattle.cases.proofs.CaseLaws.{same-sizes}
 use Rattle.cases.proofs.RefusedLaws.{case-refused-after}
 
@@ -58,7 +57,7 @@ access-number : (file : List ℕ) (at n w number : ℕ) → accessAt file at n w
 unfolding accessAt
 access-number file at n w number e = go (firstRow (accessRows file at n w)) refl e
   where
-    go : (r : ℕ) → firstRow (accessRows file at n w) ≡ r → foundUnless r (found (kindAt file at) (portIn file at) (nodesAt file at)) ≡ accesses.refused number → CaseNumber number
+    go : (r : ℕ) → firstRow (accessRows file at n w) ≡ r → foundUnless r (found (kindAt file at) (heldAt file at n w)) ≡ accesses.refused number → CaseNumber number
     go zero q e = let z : _≡_ {A = ℕ} 0 1 = cc in absurd (omega arith)
     go (suc k) q e = let z : number ≡ suc k = cc in subst CaseNumber (sym z) (rows-number CaseNumber (accessRows file at n w) (ten, (from-five 11 (omega arith) (omega arith), (ten, tt))) q)
 
@@ -76,40 +75,46 @@ passes-not k (t ∷ ts) P e = go (passes-not k ts (P .1)) (t .1) refl e
     go again false q e = false≢true (sym q ∙ P .0 e)
 
 -- an access of a file has control, address and data of the right lengths
-module _ (p n w : ℕ) (ops : List ℕ) (s : State) (en : s .rec .n ≡ n) (ew : s .rec .w ≡ w) where
+module _ (file : List ℕ) (at n w : ℕ) (s : State) (en : s .rec .n ≡ n) (ew : s .rec .w ≡ w) where
+  abbrev called : Kind → Call
+  called k = callOf k w (valuesAt file at (fieldsOf k n w))
+
   lengths : {a b c x y z : ℕ} → a ≡ x → b ≡ y → c ≡ z → (eqb a x && eqb b y && eqb c z) ≡ true
   lengths {a} {b} {c} {x} {y} {z} p q r = both-and (both-and (eq-eqb a x p) (eq-eqb b y q)) (eq-eqb c z r)
 
-  address : (i : ℕ) → i + 2 * n ≤ length ops → length (part ops i (i + 2 * n)) ≡ 2 * s .rec .n
-  address i h = part-size ops i (2 * n) h ∙ ap (λ (x : ℕ). 2 * x) (sym en)
+  control : (i : ℕ) → length (numbersAt file i 2) ≡ 2
+  control i = numbers-length file i 2
 
-  word : (i : ℕ) → i + 2 * w ≤ length ops → length (part ops i (i + 2 * w)) ≡ 2 * s .rec .w
-  word i h = part-size ops i (2 * w) h ∙ ap (λ (x : ℕ). 2 * x) (sym ew)
+  address : (i : ℕ) → length (numbersAt file i (2 * n)) ≡ 2 * s .rec .n
+  address i = numbers-length file i (2 * n) ∙ ap (λ (x : ℕ). 2 * x) (sym en)
+
+  word : (i : ℕ) → length (numbersAt file i (2 * w)) ≡ 2 * s .rec .w
+  word i = numbers-length file i (2 * w) ∙ ap (λ (x : ℕ). 2 * x) (sym ew)
 
   -- a row of another number
   no : {k : ℕ} {b : Bool} → k ≡ 4 → eqb k 4 ≡ false → b ≡ true
   no e f = absurd (false≢true (sym f ∙ eq-eqb _ 4 e))
 
-  row-four : (k : Kind) → length ops ≡ sizeOf k n w → refusal (callOf k p n w ops) s ≡ 4 → ⊥
-  unfolding callOf sizeOf
-  row-four kind.Write z = passes-not 3 (writeRows (s .rec) (s .words) (s .list) (part ops 0 2) (part ops 2 (2 + 2 * n)) (part ops (2 + 2 * n) (2 + 2 * n + 2 * w))) (λ e. no e refl, (λ e. no e refl, (λ e. no e refl, (λ _. lengths (part-size ops 0 2 (omega arith)) (address 2 (omega arith)) (word (2 + 2 * n) (omega arith)), (λ e. no e refl, (λ e. no e refl, tt))))))
-  row-four kind.Read z = passes-not 3 (readRows (s .rec) (s .words) (s .list) (s .ports) p (part ops 0 2) (part ops 2 (2 + 2 * n)) (replicate (2 * w) 0)) (λ e. no e refl, (λ e. no e refl, (λ e. no e refl, (λ _. lengths (part-size ops 0 2 (omega arith)) (address 2 (omega arith)) (length-replicate {A = ℕ} (2 * w) 0 ∙ ap (λ (x : ℕ). 2 * x) (sym ew)), (λ e. no e refl, (λ e. no e refl, (λ e. no e refl, tt)))))))
-  row-four kind.Assert z = passes-not 3 (assertRows (s .rec) (s .words) (s .list) (getD ops 0 0) (part ops 1 (1 + 2 * n)) (part ops (1 + 2 * n) (1 + 2 * n + 2 * w))) (λ e. no e refl, (λ e. no e refl, (λ e. no e refl, (λ _. both-and (eq-eqb _ _ (address 1 (omega arith))) (eq-eqb _ _ (word (1 + 2 * n) (omega arith))), (λ e. no e refl, (λ e. no e refl, (λ e. no e refl, tt)))))))
-  row-four kind.Check z = passes-not 3 (checkRows (s .rec) (s .words) (s .list) (getD ops 0 0) (part ops 1 (1 + 2 * n)) (part ops (1 + 2 * n) (1 + 2 * n + 2 * w))) (λ e. no e refl, (λ e. no e refl, (λ e. no e refl, (λ _. both-and (eq-eqb _ _ (address 1 (omega arith))) (eq-eqb _ _ (word (1 + 2 * n) (omega arith))), (λ e. no e refl, (λ e. no e refl, tt))))))
-  row-four kind.Unknown z = passes-not 3 (evaluateRows (s .rec) (s .words) 0) (λ e. no e refl, (λ e. no e refl, (λ e. no e refl, tt)))
+  row-four : (k : Kind) → refusal (called k) s ≡ 4 → ⊥
+  unfolding callOf fieldsOf valuesAt
+  row-four kind.Write = passes-not 3 (writeRows (s .rec) (s .words) (s .list) (numbersAt file at 2) (numbersAt file (at + 2 * 2) (2 * n)) (numbersAt file (at + 2 * 2 + 2 * (2 * n)) (2 * w))) (λ e. no e refl, (λ e. no e refl, (λ e. no e refl, (λ _. lengths (control _) (address _) (word _), (λ e. no e refl, (λ e. no e refl, tt))))))
+  row-four kind.Read = passes-not 3 (readRows (s .rec) (s .words) (s .list) (s .ports) (getD file at 0) (numbersAt file (at + 1) 2) (numbersAt file (at + 1 + 2 * 2) (2 * n)) (replicate (2 * w) 0)) (λ e. no e refl, (λ e. no e refl, (λ e. no e refl, (λ _. lengths (control _) (address _) (length-replicate {A = ℕ} (2 * w) 0 ∙ ap (λ (x : ℕ). 2 * x) (sym ew)), (λ e. no e refl, (λ e. no e refl, (λ e. no e refl, tt)))))))
+  row-four kind.Assert = passes-not 3 (assertRows (s .rec) (s .words) (s .list) (getD (numbersAt file at 1) 0 0) (numbersAt file (at + 2 * 1) (2 * n)) (numbersAt file (at + 2 * 1 + 2 * (2 * n)) (2 * w))) (λ e. no e refl, (λ e. no e refl, (λ e. no e refl, (λ _. both-and (eq-eqb _ _ (address _)) (eq-eqb _ _ (word _)), (λ e. no e refl, (λ e. no e refl, (λ e. no e refl, tt)))))))
+  row-four kind.Check = passes-not 3 (checkRows (s .rec) (s .words) (s .list) (getD (numbersAt file at 1) 0 0) (numbersAt file (at + 2 * 1) (2 * n)) (numbersAt file (at + 2 * 1 + 2 * (2 * n)) (2 * w))) (λ e. no e refl, (λ e. no e refl, (λ e. no e refl, (λ _. both-and (eq-eqb _ _ (address _)) (eq-eqb _ _ (word _)), (λ e. no e refl, (λ e. no e refl, tt))))))
+  row-four kind.Unknown = passes-not 3 (evaluateRows (s .rec) (s .words) 0) (λ e. no e refl, (λ e. no e refl, (λ e. no e refl, tt)))
 
-  not-four : (k : Kind) → length ops ≡ sizeOf k n w → step (callOf k p n w ops) s .answer ≡ refused 4 → ⊥
+  not-four : (k : Kind) → step (called k) s .answer ≡ refused 4 → ⊥
   unfolding RefusedByRow
-  not-four k z e = go (or-cases (eqb (refusal (callOf k p n w ops) s) 4) _ (refused-by-row (callOf k p n w ops) s 4 e))
+  not-four k e = go (or-cases (eqb (refusal (called k) s) 4) _ (refused-by-row (called k) s 4 e))
     where
       none : (x : Finish) → eqb (lateRow x) 4 ≡ true → ⊥
       none (full t) e = false≢true e
       none short e = false≢true e
       none (gives g t) e = false≢true e
 
-      go : (eqb (refusal (callOf k p n w ops) s) 4 ≡ true) ⊎ ((eqb (refusal (callOf k p n w ops) s) 0 && eqb (lateRow (finish (callOf k p n w ops) s)) 4) ≡ true) → ⊥
-      go (inl q) = row-four k z (eqb-true _ 4 q)
-      go (inr q) = none (finish (callOf k p n w ops) s) (and-both (eqb (refusal (callOf k p n w ops) s) 0) _ q .1)
+      go : (eqb (refusal (called k) s) 4 ≡ true) ⊎ ((eqb (refusal (called k) s) 0 && eqb (lateRow (finish (called k) s)) 4) ≡ true) → ⊥
+      go (inl q) = row-four k (eqb-true _ 4 q)
+      go (inr q) = none (finish (called k) s) (and-both (eqb (refusal (called k) s) 0) _ q .1)
 
 -- n and w stay
 run-sizes : (cs : List Call) (s : State) → AllAccepted cs s → (run cs s .rec .n ≡ s .rec .n) × (run cs s .rec .w ≡ s .rec .w)
@@ -144,13 +149,12 @@ call-number file words list k number q A e =
     let at = byteAfter file k in
     let n = getD file 0 0 in
     let w = getD file 1 0 in
-    let ops = numbersAt file (nodesAt file at) (sizeOf (kindAt file at) n w) in
-    let c = callOf (kindAt file at) (portIn file at) n w ops in
+    let c = callAt file n w at in
     let S = first-valid file words list q in
     let Z = run-sizes (firstCalls file k) (stateIn file words list) A in
     let four : 4 ≤ number = no-row-123 (firstCalls file k) c (stateIn file words list) number (S .0) (S .1) e in
     let most : number ≤ 14 = number-most number (refusal-number c s number e) in
-    let no : number ≡ 4 → ⊥ = λ z. not-four (portIn file at) n w ops s (Z .0) (Z .1) (kindAt file at) (numbers-length file (nodesAt file at) (sizeOf (kindAt file at) n w)) (e ∙ ap refused z) in
+    let no : number ≡ 4 → ⊥ = λ z. not-four file (at + 1) n w s (Z .0) (Z .1) (kindAt file at) (e ∙ ap refused z) in
     (omega arith, omega arith, λ z. omega arith, no)
 
 at-number : (file words list text : List ℕ) {number k : ℕ} → SectionsReady file words → AllAccepted (firstCalls file k) (stateIn file words list) → RefusedAt file words list text number k → CaseNumber number

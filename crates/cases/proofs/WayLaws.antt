@@ -53,13 +53,13 @@ numbered (model.refused k) e = record { number = k; is = refl }
 numbered (model.done g) e = absurd (false≢true e)
 
 -- an access that is found stands there
-found-stands : (file : List ℕ) (at n w : ℕ) {k : Kind} {port from : ℕ} → accessAt file at n w ≡ found k port from → StandsAt file n w at
-found-stands file at n w q = let L = access-lies file at n w (sym q) in q ∙ (λ i. found (L .kind-is i) (L .port-is i) (L .from-is i))
+found-stands : (file : List ℕ) (at n w : ℕ) {k : Kind} {values : List (List ℕ)} → accessAt file at n w ≡ found k values → StandsAt file n w at
+found-stands file at n w q = let L = access-lies file at n w (sym q) in q ∙ (λ i. found (L .kind-is i) (L .values-are i))
 
 module _ (file : List ℕ) (c : Running) where
   one-said : StandsHere file c → one file c ≡ said (answerHere file c) (afterOne file c .state) (afterOne file c .at) (c .text)
   unfolding one done
-  one-said S = ap (λ (y : Found). doneAs file y (goesOnFrom y (endOf file (c .at) (c .state .rec .n) (c .state .rec .w)) (c .at)) (c .state) (c .text)) S
+  one-said S = ap (λ (y : Found). doneAs y (goesOnFrom y (endOf file (c .at) (c .state .rec .n) (c .state .rec .w)) (c .at)) (c .state) (c .text)) S
 
   pub one-done : StandsHere file c → isRefused (answerHere file c) ≡ false → (f : Bool) → afterOne file c .text .text .full ≡ f → one file c ≡ cond f (stops 13) (goes (afterOne file c))
   one-done S a f q =
@@ -69,7 +69,7 @@ module _ (file : List ℕ) (c : Running) where
 
   one-none : {k : ℕ} → accessAt file (c .at) (c .state .rec .n) (c .state .rec .w) ≡ accesses.refused k → one file c ≡ stops k
   unfolding one
-  one-none q = ap (λ (y : Found). doneAs file y (goesOnFrom y (endOf file (c .at) (c .state .rec .n) (c .state .rec .w)) (c .at)) (c .state) (c .text)) q
+  one-none q = ap (λ (y : Found). doneAs y (goesOnFrom y (endOf file (c .at) (c .state .rec .n) (c .state .rec .w)) (c .at)) (c .state) (c .text)) q
 
   pub way : Way file c
   way = there (accessAt file (c .at) (c .state .rec .n) (c .state .rec .w)) refl
@@ -85,5 +85,5 @@ module _ (file : List ℕ) (c : Running) where
       called false q S = line (afterOne file c .text .text .full) refl S q
 
       there : (f : Found) → accessAt file (c .at) (c .state .rec .n) (c .state .rec .w) ≡ f → Way file c
-      there (found k port from) q = called (isRefused (answerHere file c)) refl (found-stands file (c .at) (c .state .rec .n) (c .state .rec .w) q)
+      there (found k values) q = called (isRefused (answerHere file c)) refl (found-stands file (c .at) (c .state .rec .n) (c .state .rec .w) q)
       there (accesses.refused k) q = isMissing k (one-none q) q

@@ -1,30 +1,32 @@
 -- 01, 'Case file': what a case answers, and what it leaves of node words, list and text bytes.
 use mathlib.Core.Bool.{true, false, cond}
 use mathlib.Core.List.{List, []}
-use Prim.Native.Nat.{ℕ, zero, suc, _+_, _*_}
+use Prim.Native.Nat.{ℕ, zero, suc, _*_}
 use lib.Dec.{ltb}
 use lib.ListN.{length, getD, take, replicate}
 use Rattle.text.specs.Text.{Out, growing, appended}
 use Rattle.lines.specs.Lines.{writeLine, idleLine, readLine, assertLine, checkLine, endLine, refusedLine}
-use Rattle.model.specs.Record.{Record, part, freshPorts}
+use Rattle.model.specs.Record.{Record, freshPorts}
 use Rattle.model.specs.Step.{State, write, read, assert, check, evaluate, Call, access, nodeCall, Given, place, idle, filled, entered, kept, accepted, valued, node, triples, Answer, step}
 use Rattle.model.specs.Step as step
 use Rattle.format.specs.declared.Kind.{Kind}
 use Rattle.format.specs.declared.Kind.the-variants as kind
-use Rattle.format.specs.Bytes.{numbersAt}
-use Rattle.format.specs.Kinds.{sizeOf}
 use Rattle.format.specs.Accesses.{Found, found, accessAt, goesOn}
 use Rattle.format.specs.Accesses as accesses
 use Rattle.format.specs.Sections.{Sections, ready, firstRecord, sections}
 use Rattle.format.specs.Sections as sections
 
--- "Then the control pair (b alone for 3 and 4), address, data (none for a read)": the call with these nodes, of a read at its port. A read is lent words of its own. No access of an unknown kind is found
-unfoldable pub callOf : Kind → ℕ → ℕ → ℕ → List ℕ → Call
-callOf kind.Write p n w ops = access (write (part ops 0 2) (part ops 2 (2 + 2 * n)) (part ops (2 + 2 * n) (2 + 2 * n + 2 * w)))
-callOf kind.Read p n w ops = access (read p (part ops 0 2) (part ops 2 (2 + 2 * n)) (replicate (2 * w) 0))
-callOf kind.Assert p n w ops = access (assert (getD ops 0 0) (part ops 1 (1 + 2 * n)) (part ops (1 + 2 * n) (1 + 2 * n + 2 * w)))
-callOf kind.Check p n w ops = access (check (getD ops 0 0) (part ops 1 (1 + 2 * n)) (part ops (1 + 2 * n) (1 + 2 * n + 2 * w)))
-callOf kind.Unknown p n w ops = nodeCall (evaluate 0 0)
+-- what field i of an access holds
+abbrev pub field : List (List ℕ) → ℕ → List ℕ
+field values i = getD values i []
+
+-- the call of a kind with these fields, for w data bits. A read is lent words of its own. No access of an unknown kind is found
+unfoldable pub callOf : Kind → ℕ → List (List ℕ) → Call
+callOf kind.Write w v = access (write (field v 0) (field v 1) (field v 2))
+callOf kind.Read w v = access (read (getD (field v 0) 0 0) (field v 1) (field v 2) (replicate (2 * w) 0))
+callOf kind.Assert w v = access (assert (getD (field v 0) 0 0) (field v 1) (field v 2))
+callOf kind.Check w v = access (check (getD (field v 0) 0 0) (field v 1) (field v 2))
+callOf kind.Unknown w v = nodeCall (evaluate 0 0)
 
 -- "Lines: a write's entry place; a read's h:l for each bit ..; the check condition", and 02's `write idle`. "An assert prints `assert entered` or `assert kept`, a space, the assert condition.": the line of an access by its answer and the state after it
 abbrev pub givenLine : Given → State → List ℕ
@@ -66,16 +68,16 @@ said (step.done g) s at o = printed s at (appended (givenLine g s) o)
 unfoldable pub done : Call → State → ℕ → Out → Next
 done c s at o = said (step c s .answer) (step c s .after) at o
 
--- an access found, of n and w as in the record, from which the reading goes on to a byte; or not found
-abbrev pub doneAs : List ℕ → Found → ℕ → State → Out → Next
-doneAs file (found k port from) next s o = done (callOf k port (s .rec .n) (s .rec .w) (numbersAt file from (sizeOf k (s .rec .n) (s .rec .w)))) s next o
-doneAs file (accesses.refused k) next s o = stops k
+-- an access found, from which the reading goes on to a byte; or not found
+abbrev pub doneAs : Found → ℕ → State → Out → Next
+doneAs (found k values) next s o = done (callOf k (s .rec .w) values) s next o
+doneAs (accesses.refused k) next s o = stops k
 
 unfoldable pub one : List ℕ → Running → Next
 one file c =
     let n = c .state .rec .n in
     let w = c .state .rec .w in
-    doneAs file (accessAt file (c .at) n w) (goesOn file (c .at) n w) (c .state) (c .text)
+    doneAs (accessAt file (c .at) n w) (goesOn file (c .at) n w) (c .state) (c .text)
 
 -- all accesses are done and the last line printed; or a refusal's number, and the accesses already printed
 pub data Ended : Type 0 where

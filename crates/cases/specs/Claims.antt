@@ -15,9 +15,7 @@ use Rattle.model.specs.Array.{Run, observed, Allowed}
 use Rattle.model.specs.Claims.{fed, events, Exactly}
 use Rattle.model.specs.Table.{NeverOne, MayBeOne}
 use Rattle.model.specs.Count.{entryCount, DiffersUnder}
-use Rattle.format.specs.Bytes.{numbersAt}
-use Rattle.format.specs.Kinds.{sizeOf}
-use Rattle.format.specs.Accesses.{found, kindAt, nodesAt, endOf, accessAt, portIn}
+use Rattle.format.specs.Accesses.{found, kindAt, heldAt, endOf, accessAt}
 use Rattle.format.specs.Accesses as accesses
 use Rattle.format.specs.Sections.{nodesIn, accessesIn, firstAt, recordIn, stored, ready, sections}
 use Rattle.format.specs.Sections as sections
@@ -25,7 +23,7 @@ use Rattle.cases.specs.Case.{callOf, lineOf, accepts, refuses, Case, cas
 
 -- the call whose kind byte stands at a place, for n and w
 abbrev pub callAt : List ℕ → ℕ → ℕ → ℕ → Call
-callAt file n w at = callOf (kindAt file at) (portIn file at) n w (numbersAt file (nodesAt file at) (sizeOf (kindAt file at) n w))
+callAt file n w at = callOf (kindAt file at) w (heldAt file at n w)
 
 -- m calls, each from the byte after the one before it
 unfoldable pub callsFrom : List ℕ → ℕ → ℕ → ℕ → ℕ → List Call
@@ -101,7 +99,7 @@ SectionsReady file words = sections file words .1 ≡ ready (getD file 0 0) (get
 
 -- an access stands at this place, for n and w
 abbrev pub StandsAt : List ℕ → ℕ → ℕ → ℕ → Type 0
-StandsAt file n w at = accessAt file at n w ≡ found (kindAt file at) (portIn file at) (nodesAt file at)
+StandsAt file n w at = accessAt file at n w ≡ found (kindAt file at) (heldAt file at n w)
 
 -- m accesses stand there, each from the byte after the one before it
 abbrev pub AllStand : List ℕ → ℕ → ℕ → ℕ → ℕ → Type 0

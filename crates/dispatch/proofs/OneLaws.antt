@@ -1,14 +1,20 @@
 -- The access at a place of the file.
 use mathlib.Core.Path.{_≡_, sym, ap, subst, _∙_}
 use mathlib.Core.List.{List}
-use Prim.Native.Nat.{ℕ}
+use Prim.Native.Nat.{ℕ, _+_}
+use native.Mathlib.Omega.{arith}
+use lib.ListN.{getD}
 use Rattle.format.specs.declared.Kind.{Kind}
 use Rattle.reading.specs.declared.Progress.{Progress}
 use Rattle.reading.specs.declared.Access.the-variants as access
 use Rattle.format.specs.Bytes.{numbersAt}
-use Rattle.format.specs.Kinds.{sizeOf}
-use Rattle.format.specs.Accesses.{Found, accessAt, goesOn}
-use Rattle.reading.specs.Contract.{foundOf, Finds}
+use Rattle.format.specs.Fields.{fieldsOf, valuesAt}
+use Rattle.format.specs.Accesses.{Found, found, heldAt, endOf, accessAt, goesOnFrom}
+use Rattle.format.specs.Accesses as accesses
+use Rattle.reading.specs.Layout.{leadOf, portOf, sizeOf, told}
+use Rattle.reading.specs.Contract.{answerOf, Finds}
+use Rattle.reading.proofs.FindLaws.{access-here}
+use Rattle.dispatch.proofs.ToldLaws.{call-told}
 use Rattle.cases.specs.Case.{Running, stops, callOf, done, doneAs, one, Next, goes, said, givenLine}
 use Rattle.entering.specs.declared.Step.{Step}
 use Rattle.entering.specs.Contract.{StepAs, nextOf, PortsReadyNext}
@@ -23,19 +29,35 @@ use Rattle.model.proofs.FrameLaws.{ports-stay-valid}
 module _ (file : List ℕ) (c : Running) (p : Progress) (F : Finds p file (c .at) (c .state .rec .n) (c .state .rec .w)) where
   pub one-missing : {k : ℕ} → p .access ≡ access.Refused k → stops k ≡ one file c
   unfolding one
-  one-missing e = ap (λ (x : Found). doneAs file x (goesOn file (c .at) (c .state .rec .n) (c .state .rec .w)) (c .state) (c .text)) (sym (ap foundOf e) ∙ F .0)
+  one-missing {k} e = go (accessAt file (c .at) (c .state .rec .n) (c .state .rec .w)) (sym e ∙ F .0)
+    where
+      go : (x : Found) → access.Refused k ≡ answerOf file (c .at) x → stops k ≡ doneAs x (goesOnFrom x (endOf file (c .at) (c .state .rec .n) (c .state .rec .w)) (c .at)) (c .state) (c .text)
+      go (found kind values) z = let u : _≡_ {A = ℕ} 0 1 = cc in absurd (omega arith)
+      go (accesses.refused i) z = let u : k ≡ i = cc in ap stops u
+
+  -- the call by the nodes from a byte on
+  abbrev calledBy : Kind → ℕ → ℕ → ℕ → Call
+  calledBy k q from size = callOf k (c .state .rec .w) (told k (c .state .rec .n) (c .state .rec .w) q (numbersAt file from size))
 
   one-here : {k : Kind} {q from : ℕ} → p .access ≡ access.Here k q from
-      → done (callOf k q (c .state .rec .n) (c .state .rec .w) (numbersAt file from (sizeOf k (c .state .rec .n) (c .state .rec .w)))) (c .state) (p .at) (c .text) ≡ one file c
+      → done (calledBy k q from (sizeOf k (c .state .rec .n) (c .state .rec .w))) (c .state) (p .at) (c .text) ≡ one file c
   unfolding one
   one-here {k} {q} {from} e =
-      ap (λ (x : Found). doneAs file x (p .at) (c .state) (c .text)) (sym (ap foundOf e) ∙ F .0)
-      ∙ ap (λ (i : ℕ). doneAs file (accessAt file (c .at) (c .state .rec .n) (c .state .rec .w)) i (c .state) (c .text)) (F .1)
+      let n = c .state .rec .n in
+      let w = c .state .rec .w in
+      let S = access-here file (c .at) n w e (F .0) in
+      let port : q ≡ portOf k (getD file (c .at + 1) 0) = S .port-is ∙ ap (λ (x : Kind). portOf x (getD file (c .at + 1) 0)) (sym (S .kind-is)) in
+      let begin : from ≡ c .at + 1 + leadOf k = S .from-is ∙ ap (λ (x : Kind). c .at + 1 + leadOf x) (sym (S .kind-is)) in
+      let fields : callOf k w (valuesAt file (c .at + 1) (fieldsOf k n w)) ≡ callOf k w (heldAt file (c .at) n w) = ap (λ (x : Kind). callOf k w (valuesAt file (c .at + 1) (fieldsOf x n w))) (S .kind-is) in
+      let call : calledBy k q from (sizeOf k n w) ≡ callOf k w (heldAt file (c .at) n w) = (λ i. calledBy k (port i) (begin i) (sizeOf k n w)) ∙ call-told file (c .at + 1) n w k ∙ fields in
+      ap (λ (x : Call). done x (c .state) (p .at) (c .text)) call
+      ∙ ap (λ (x : Found). doneAs x (p .at) (c .state) (c .text)) (sym (S .is))
+      ∙ ap (λ (i : ℕ). doneAs (accessAt file (c .at) n w) i (c .state) (c .text)) (F .1)
 
   pub step-here : {k : Kind} {q from : ℕ} → p .access ≡ access.Here k q from → (size : ℕ) → size ≡ sizeOf k (c .state .rec .n) (c .state .rec .w) → {r : Step} {w l b table ps : List ℕ}
-      → StepAs r w l b table ps (done (callOf k q (c .state .rec .n) (c .state .rec .w) (numbersAt file from size)) (c .state) (p .at) (c .text)) → StepAs r w l b table ps (one file c)
+      → StepAs r w l b table ps (done (calledBy k q from size) (c .state) (p .at) (c .text)) → StepAs r w l b table ps (one file c)
   step-here {k} {q} {from} e size z {r} {w} {l} {b} {table} {ps} C =
-      subst (StepAs r w l b table ps) (ap (λ (i : ℕ). done (callOf k q (c .state .rec .n) (c .state .rec .w) (numbersAt file from i)) (c .state) (p .at) (c .text)) z ∙ one-here e) C
+      subst (StepAs r w l b table ps) (ap (λ (i : ℕ). done (calledBy k q from i) (c .state) (p .at) (c .text)) z ∙ one-here e) C
 
 -- after an access row 3 refuses no port to a read, where it refused none before
 abbrev NextPorts : Next → Type 0

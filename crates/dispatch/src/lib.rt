@@ -5,7 +5,8 @@ ghost use Prim.Native.Nat.{_+_, _*_, _≤_};
 ghost use lib.ListN.{length};
 ghost use Rattle.text.specs.Text.{out};
 ghost use Rattle.format.specs.Bytes.{numbersAt};
-ghost use Rattle.format.specs.Kinds.{isKnown, sizeOf};
+ghost use Rattle.format.specs.Kinds.{isKnown};
+ghost use Rattle.reading.specs.Layout.{sizeOf, told};
 ghost use Rattle.model.specs.Frames.{PortsValid};
 ghost use Rattle.memory.specs.Contract.{stateOf};
 ghost use Rattle.cases.specs.Case.{callOf, done, one};
@@ -29,7 +30,7 @@ fn do_access(
     ops: &[u32],
 ) -> Step
     requires { ⌜ Ready (c .memory) (now words) (now list) (now table) × PortsValid (stateOf (c .memory) (now words) (now list) (now ports)) × (isKnown kind ≡ true) × (length (now ops) ≡ sizeOf kind (c .memory .n) (c .memory .w)) ⌝ }
-    ensures { λ r. ⌜ StepAs r (now (words .exit)) (now (list .exit)) (now (buf .exit)) (now (table .exit)) (now (ports .exit)) (done (callOf kind port (c .memory .n) (c .memory .w) (now (ops .entry))) (stateOf (c .memory) (now (words .entry)) (now (list .entry)) (now (ports .entry))) (c .at) (out (now (buf .entry)) (c .text))) ⌝ }
+    ensures { λ r. ⌜ StepAs r (now (words .exit)) (now (list .exit)) (now (buf .exit)) (now (table .exit)) (now (ports .exit)) (done (callOf kind (c .memory .w) (told kind (c .memory .n) (c .memory .w) port (now (ops .entry)))) (stateOf (c .memory) (now (words .entry)) (now (list .entry)) (now (ports .entry))) (c .at) (out (now (buf .entry)) (c .text))) ⌝ }
 {
     match kind {
         Kind::Write => entering::do_write(words, list, table, buf, c, ops),
@@ -55,7 +56,7 @@ fn read_access(
     ops: &mut [u32],
 ) -> Step
     requires { ⌜ Ready (c .memory) (now words) (now list) (now table) × PortsValid (stateOf (c .memory) (now words) (now list) (now ports)) × (isKnown kind ≡ true) × (length (now ops) ≡ sizeOf kind (c .memory .n) (c .memory .w)) × (from + 2 * length (now ops) ≤ length (now file)) ⌝ }
-    ensures { λ r. ⌜ StepAs r (now (words .exit)) (now (list .exit)) (now (buf .exit)) (now (table .exit)) (now (ports .exit)) (done (callOf kind port (c .memory .n) (c .memory .w) (numbersAt (now (file .entry)) from (length (now (ops .entry))))) (stateOf (c .memory) (now (words .entry)) (now (list .entry)) (now (ports .entry))) (c .at) (out (now (buf .entry)) (c .text))) ⌝ }
+    ensures { λ r. ⌜ StepAs r (now (words .exit)) (now (list .exit)) (now (buf .exit)) (now (table .exit)) (now (ports .exit)) (done (callOf kind (c .memory .w) (told kind (c .memory .n) (c .memory .w) port (numbersAt (now (file .entry)) from (length (now (ops .entry)))))) (stateOf (c .memory) (now (words .entry)) (now (list .entry)) (now (ports .entry))) (c .at) (out (now (buf .entry)) (c .text))) ⌝ }
 {
     reading::read_numbers(file, from, ops);
     do_access(kind, port, words, list, table, ports, buf, c, ops)

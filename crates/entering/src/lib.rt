@@ -1,10 +1,11 @@
 // A case between two accesses, and the accesses that may enter: a write and an assert, each with its line.
 ghost use mathlib.Core.Path.{_≡_};
 ghost use mathlib.Core.List.{List};
-ghost use Prim.Native.Nat.{ℕ, _+_, _*_};
+ghost use Prim.Native.Nat.{ℕ};
 ghost use lib.ListN.{length};
 ghost use Rattle.text.specs.Text.{out};
 ghost use Rattle.format.specs.declared.Kind.the-variants as kinds;
+ghost use Rattle.reading.specs.Layout.{sizeOf, told};
 ghost use Rattle.memory.specs.Contract.{stateOf};
 ghost use Rattle.cases.specs.Case.{callOf, done};
 ghost use Rattle.entering.specs.Contract.{printedAs, Ready, StepAs};
@@ -13,6 +14,7 @@ use conditions::Table;
 use memory::AssertAnswer;
 use memory::Record;
 use memory::WriteAnswer;
+use reading::Kind;
 use text::Text;
 
 // A case between two accesses: the memory, the text so far, and the byte with which the next access begins.
@@ -48,13 +50,15 @@ pub fn do_write(
     c: Run,
     ops: &[u32],
 ) -> Step
-    requires { ⌜ Ready (c .memory) (now words) (now list) (now table) × (length (now ops) ≡ 2 + 2 * c .memory .n + 2 * c .memory .w) ⌝ }
-    ensures { λ r. ⌜ ((ps : List ℕ) → StepAs r (now (words .exit)) (now (list .exit)) (now (buf .exit)) (now (table .exit)) ps (done (callOf kinds.Write 0 (c .memory .n) (c .memory .w) (now (ops .entry))) (stateOf (c .memory) (now (words .entry)) (now (list .entry)) ps) (c .at) (out (now (buf .entry)) (c .text)))) ⌝ }
+    requires { ⌜ Ready (c .memory) (now words) (now list) (now table) × (length (now ops) ≡ sizeOf kinds.Write (c .memory .n) (c .memory .w)) ⌝ }
+    ensures { λ r. ⌜ ((ps : List ℕ) → StepAs r (now (words .exit)) (now (list .exit)) (now (buf .exit)) (now (table .exit)) ps (done (callOf kinds.Write (c .memory .w) (told kinds.Write (c .memory .n) (c .memory .w) 0 (now (ops .entry)))) (stateOf (c .memory) (now (words .entry)) (now (list .entry)) ps) (c .at) (out (now (buf .entry)) (c .text)))) ⌝ }
 {
     let memory = c.memory;
-    let a = reading::address_end(2, memory.n);
-    let d = reading::data_end(2, memory.n, memory.w);
-    let r = memory.write_on(words, list, table, &ops[0..2], &ops[2..a], &ops[a..d]);
+    let e = reading::ends_of(Kind::Write, memory.n, memory.w);
+    let b = e.control;
+    let a = e.address;
+    let d = e.word;
+    let r = memory.write_on(words, list, table, &ops[0..b], &ops[b..a], &ops[a..d]);
     let after = r.after;
     let answer = r.answer;
     match answer {
@@ -79,18 +83,20 @@ pub fn do_assert(
     c: Run,
     ops: &[u32],
 ) -> Step
-    requires { ⌜ Ready (c .memory) (now words) (now list) (now table) × (length (now ops) ≡ 1 + 2 * c .memory .n + 2 * c .memory .w) ⌝ }
-    ensures { λ r. ⌜ ((ps : List ℕ) → StepAs r (now (words .exit)) (now (list .exit)) (now (buf .exit)) (now (table .exit)) ps (done (callOf kinds.Assert 0 (c .memory .n) (c .memory .w) (now (ops .entry))) (stateOf (c .memory) (now (words .entry)) (now (list .entry)) ps) (c .at) (out (now (buf .entry)) (c .text)))) ⌝ }
+    requires { ⌜ Ready (c .memory) (now words) (now list) (now table) × (length (now ops) ≡ sizeOf kinds.Assert (c .memory .n) (c .memory .w)) ⌝ }
+    ensures { λ r. ⌜ ((ps : List ℕ) → StepAs r (now (words .exit)) (now (list .exit)) (now (buf .exit)) (now (table .exit)) ps (done (callOf kinds.Assert (c .memory .w) (told kinds.Assert (c .memory .n) (c .memory .w) 0 (now (ops .entry)))) (stateOf (c .memory) (now (words .entry)) (now (list .entry)) ps) (c .at) (out (now (buf .entry)) (c .text)))) ⌝ }
 {
     let memory = c.memory;
-    let a = reading::address_end(1, memory.n);
-    let d = reading::data_end(1, memory.n, memory.w);
+    let e = reading::ends_of(Kind::Assert, memory.n, memory.w);
+    let b = e.control;
+    let a = e.address;
+    let d = e.word;
     let r = memory.assert_on(
         words,
         list,
         table,
         ControlNode(ops[0]),
-        &ops[1..a],
+        &ops[b..a],
         &ops[a..d],
     );
     let after = r.after;

@@ -42,3 +42,31 @@ module _ (file : List ℕ) where
 
   pub filled-all : (at i : ℕ) (l : List ℕ) → i ≡ length l → filledTo at i l ≡ numbersAt file at (length l)
   filled-all at i l e = rw (drop-of-length-le l {i = i} (omega arith), append-nil) (ap (numbersAt file at) e)
+
+  -- some of them
+  drop-numbers : (m at a : ℕ) → a ≤ m → drop a (numbersAt file at m) ≡ numbersAt file (at + 2 * a) (m - a)
+  unfolding numbersAt
+  drop-numbers zero at zero h = refl
+  drop-numbers zero at (suc a) h = absurd (omega arith)
+  drop-numbers (suc m) at zero h =
+      let e : at ≡ at + 2 * 0 = omega arith in
+      let f : suc m ≡ suc m - 0 = omega arith in
+      ap (λ (i : ℕ). numbersAt file i (suc m)) e ∙ ap (numbersAt file (at + 2 * 0)) f
+  drop-numbers (suc m) at (suc a) h =
+      let e : at + 2 + 2 * a ≡ at + 2 * suc a = omega arith in
+      let f : m - a ≡ suc m - suc a = omega arith in
+      drop-numbers m (at + 2) a (omega arith) ∙ ap (λ (i : ℕ). numbersAt file i (m - a)) e ∙ ap (numbersAt file (at + 2 * suc a)) f
+
+  take-numbers : (m at k : ℕ) → k ≤ m → take k (numbersAt file at m) ≡ numbersAt file at k
+  unfolding numbersAt
+  take-numbers m at zero h = refl
+  take-numbers zero at (suc k) h = absurd (omega arith)
+  take-numbers (suc m) at (suc k) h = ap (λ (l : List ℕ). numberAt file at ∷ l) (take-numbers m (at + 2) k (omega arith))
+
+  pub part-numbers : (at m a e k from : ℕ) → e ≡ a + k → e ≤ m → from ≡ at + 2 * a → part (numbersAt file at m) a e ≡ numbersAt file from k
+  part-numbers at m a e k from z h f =
+      let s : e - a ≡ k = omega arith in
+      ap (λ (i : ℕ). take i (drop a (numbersAt file at m))) s
+      ∙ ap (take k) (drop-numbers m at a (omega arith))
+      ∙ take-numbers (m - a) (at + 2 * a) k (omega arith)
+      ∙ ap (λ (i : ℕ). numbersAt file i k) (sym f)

@@ -7,9 +7,10 @@ use Rattle.nodes.specs.Words.{hasWords}
 use Rattle.nodes.specs.Search.{seek, every}
 use Rattle.nodes.specs.Standard.{counted, terminals, childFits, shaped, lowest, first, isStandard}
 use Rattle.model.specs.Rows.{row1}
-use Rattle.format.specs.declared.Kind.the-variants.{Write, Read, Check}
+use Rattle.format.specs.declared.Kind.the-variants.{Write, Read, Assert, Check}
 use Rattle.format.specs.Bytes.{numberAt, numbersAt}
-use Rattle.format.specs.Kinds.{kindOf, sizeOf, leadOf, portOf}
+use Rattle.format.specs.Kinds.{kindOf}
+use Rattle.format.specs.Fields.{fieldsOf, fieldsEnd, valuesAt}
 use Rattle.format.specs.Accesses as accesses
 use Rattle.format.specs.Accesses.{accessAt, found, goesOn}
 use Rattle.format.specs.Sections.{withNodes, sections, ready, refused}
@@ -27,21 +28,30 @@ example-sections : sections example (replicate 14 7) ≡ (64 ∷ 0 ∷ 0 ∷ 64 
 unfolding sections withNodes numberAt row1 counted isStandard terminals hasWords shaped childFits first lowest seek every
 example-sections = refl
 
-example-write : (accessAt example 16 1 1 ≡ found Write 0 17) × (numbersAt example 17 6 ≡ 1 ∷ 0 ∷ 2 ∷ 3 ∷ 1 ∷ 0 ∷ [])
-unfolding accessAt kindOf sizeOf leadOf portOf numbersAt numberAt
-example-write = (refl, refl)
+-- its accesses: their kinds, and what their fields hold
+example-write : accessAt example 16 1 1 ≡ found Write ((1 ∷ 0 ∷ []) ∷ (2 ∷ 3 ∷ []) ∷ (1 ∷ 0 ∷ []) ∷ [])
+unfolding accessAt kindOf fieldsOf fieldsEnd valuesAt numbersAt numberAt
+example-write = refl
 
-example-read : (accessAt example 29 1 1 ≡ found Read 0 31) × (numbersAt example 31 4 ≡ 1 ∷ 0 ∷ 0 ∷ 1 ∷ [])
-unfolding accessAt kindOf sizeOf leadOf portOf numbersAt numberAt
-example-read = (refl, refl)
+example-read : accessAt example 29 1 1 ≡ found Read ((0 ∷ []) ∷ (1 ∷ 0 ∷ []) ∷ (0 ∷ 1 ∷ []) ∷ [])
+unfolding accessAt kindOf fieldsOf fieldsEnd valuesAt numbersAt numberAt
+example-read = refl
 
-example-check : (accessAt example 39 1 1 ≡ found Check 0 40) × (numbersAt example 40 5 ≡ 1 ∷ 0 ∷ 1 ∷ 1 ∷ 0 ∷ [])
-unfolding accessAt kindOf sizeOf leadOf portOf numbersAt numberAt
-example-check = (refl, refl)
+example-check : accessAt example 39 1 1 ≡ found Check ((1 ∷ []) ∷ (0 ∷ 1 ∷ []) ∷ (1 ∷ 0 ∷ []) ∷ [])
+unfolding accessAt kindOf fieldsOf fieldsEnd valuesAt numbersAt numberAt
+example-check = refl
+
+-- an assert, of 2 data bits
+abbrev asserted : List ℕ
+asserted = 3 ∷ 5 ∷ 1 ∷ 0 ∷ 0 ∷ 1 ∷ 0 ∷ 7 ∷ 0 ∷ 8 ∷ 0 ∷ 9 ∷ 0 ∷ 1 ∷ 1 ∷ []
+
+example-assert : (accessAt asserted 0 1 2 ≡ found Assert ((261 ∷ []) ∷ (0 ∷ 1 ∷ []) ∷ (7 ∷ 8 ∷ 9 ∷ 257 ∷ []) ∷ [])) × (goesOn asserted 0 1 2 ≡ 15)
+unfolding accessAt kindOf fieldsOf fieldsEnd valuesAt numbersAt numberAt
+example-assert = (refl, refl)
 
 -- from each access the reading goes on to the next, and from the last to the file's end; where none stands it stays
 example-goes-on : (goesOn example 16 1 1 ≡ 29) × (goesOn example 29 1 1 ≡ 39) × (goesOn example 39 1 1 ≡ 50) × (goesOn example 50 1 1 ≡ 50)
-unfolding accessAt kindOf sizeOf leadOf portOf
+unfolding accessAt kindOf fieldsOf fieldsEnd valuesAt numbersAt numberAt
 example-goes-on = (refl, refl, refl, refl)
 
 -- row 1: n=9. Row 2: 5 words. Row 10: an empty file. Row 11: kind 0
@@ -58,7 +68,7 @@ unfolding sections
 empty-file = refl
 
 kind-zero : accessAt (0 ∷ []) 0 8 16 ≡ accesses.refused 11
-unfolding accessAt kindOf sizeOf leadOf portOf
+unfolding accessAt kindOf fieldsOf fieldsEnd valuesAt numbersAt numberAt
 kind-zero = refl
 
 -- "Tests follow the file". The byte of w is missing, and n=9
@@ -87,18 +97,18 @@ unfolding accessAt
 kind-missing = refl
 
 write-missing : accessAt (1 ∷ 0 ∷ []) 0 1 1 ≡ accesses.refused 10
-unfolding accessAt kindOf sizeOf leadOf portOf
+unfolding accessAt kindOf fieldsOf fieldsEnd valuesAt numbersAt numberAt
 write-missing = refl
 
 -- a read of whose bytes the last is missing: 10, whatever the port
 read-missing : accessAt (2 ∷ 9 ∷ 1 ∷ 0 ∷ 0 ∷ 0 ∷ 0 ∷ 0 ∷ 1 ∷ []) 0 1 1 ≡ accesses.refused 10
-unfolding accessAt kindOf sizeOf leadOf portOf
+unfolding accessAt kindOf fieldsOf fieldsEnd valuesAt numbersAt numberAt
 read-missing = refl
 
 -- a read by port 3: the byte after its kind is the port, and its nodes begin after that
 abbrev by-port : List ℕ
 by-port = 2 ∷ 3 ∷ 1 ∷ 0 ∷ 0 ∷ 0 ∷ 0 ∷ 0 ∷ 1 ∷ 0 ∷ []
 
-read-by-port : (accessAt by-port 0 1 1 ≡ found Read 3 2) × (numbersAt by-port 2 4 ≡ 1 ∷ 0 ∷ 0 ∷ 1 ∷ [])
-unfolding accessAt kindOf sizeOf leadOf portOf numbersAt numberAt
-read-by-port = (refl, refl)
+read-by-port : accessAt by-port 0 1 1 ≡ found Read ((3 ∷ []) ∷ (1 ∷ 0 ∷ []) ∷ (0 ∷ 1 ∷ []) ∷ [])
+unfolding accessAt kindOf fieldsOf fieldsEnd valuesAt numbersAt numberAt
+read-by-port = refl

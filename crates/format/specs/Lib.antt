@@ -1,4 +1,5 @@
 pub mod Bytes
 pub mod Kinds
+pub mod Fields
 pub mod Accesses
 pub mod Sections

@@ -1,10 +1,11 @@
 // The accesses of a case that enter nothing: a read and a check, each with its line.
 ghost use mathlib.Core.List.{List};
-ghost use Prim.Native.Nat.{ℕ, _+_, _*_};
+ghost use Prim.Native.Nat.{ℕ, _*_};
 ghost use mathlib.Core.Path.{_≡_};
 ghost use lib.ListN.{length, replicate};
 ghost use Rattle.text.specs.Text.{out};
 ghost use Rattle.format.specs.declared.Kind.the-variants as kinds;
+ghost use Rattle.reading.specs.Layout.{sizeOf, told};
 ghost use Rattle.model.specs.Frames.{PortsValid};
 ghost use Rattle.memory.specs.Contract.{stateOf};
 ghost use Rattle.cases.specs.Case.{callOf, done};
@@ -15,6 +16,7 @@ use entering::Run;
 use entering::Step;
 use memory::CheckAnswer;
 use memory::ReadAnswer;
+use reading::Kind;
 
 // A read, and its line, with the word that it fills.
 fn read_into(
@@ -28,19 +30,21 @@ fn read_into(
     ops: &[u32],
     word: &mut [u32],
 ) -> Step
-    requires { ⌜ Ready (c .memory) (now words) (now list) (now table) × PortsValid (stateOf (c .memory) (now words) (now list) (now ports)) × (length (now ops) ≡ 2 + 2 * c .memory .n) × (now word ≡ replicate (2 * c .memory .w) 0) ⌝ }
-    ensures { λ r. ⌜ StepAs r (now (words .exit)) (now (list .entry)) (now (buf .exit)) (now (table .exit)) (now (ports .exit)) (done (callOf kinds.Read port (c .memory .n) (c .memory .w) (now (ops .entry))) (stateOf (c .memory) (now (words .entry)) (now (list .entry)) (now (ports .entry))) (c .at) (out (now (buf .entry)) (c .text))) ⌝ }
+    requires { ⌜ Ready (c .memory) (now words) (now list) (now table) × PortsValid (stateOf (c .memory) (now words) (now list) (now ports)) × (length (now ops) ≡ sizeOf kinds.Read (c .memory .n) (c .memory .w)) × (now word ≡ replicate (2 * c .memory .w) 0) ⌝ }
+    ensures { λ r. ⌜ StepAs r (now (words .exit)) (now (list .entry)) (now (buf .exit)) (now (table .exit)) (now (ports .exit)) (done (callOf kinds.Read (c .memory .w) (told kinds.Read (c .memory .n) (c .memory .w) port (now (ops .entry)))) (stateOf (c .memory) (now (words .entry)) (now (list .entry)) (now (ports .entry))) (c .at) (out (now (buf .entry)) (c .text))) ⌝ }
 {
     let memory = c.memory;
-    let a = reading::address_end(2, memory.n);
+    let e = reading::ends_of(Kind::Read, memory.n, memory.w);
+    let b = e.control;
+    let a = e.address;
     let r = memory.read_on(
         words,
         list,
         table,
         ports,
         port,
-        &ops[0..2],
-        &ops[2..a],
+        &ops[0..b],
+        &ops[b..a],
         word,
     );
     let after = r.after;
@@ -65,8 +69,8 @@ pub fn do_read(
     port: u32,
     ops: &[u32],
 ) -> Step
-    requires { ⌜ Ready (c .memory) (now words) (now list) (now table) × PortsValid (stateOf (c .memory) (now words) (now list) (now ports)) × (length (now ops) ≡ 2 + 2 * c .memory .n) ⌝ }
-    ensures { λ r. ⌜ StepAs r (now (words .exit)) (now (list .entry)) (now (buf .exit)) (now (table .exit)) (now (ports .exit)) (done (callOf kinds.Read port (c .memory .n) (c .memory .w) (now (ops .entry))) (stateOf (c .memory) (now (words .entry)) (now (list .entry)) (now (ports .entry))) (c .at) (out (now (buf .entry)) (c .text))) ⌝ }
+    requires { ⌜ Ready (c .memory) (now words) (now list) (now table) × PortsValid (stateOf (c .memory) (now words) (now list) (now ports)) × (length (now ops) ≡ sizeOf kinds.Read (c .memory .n) (c .memory .w)) ⌝ }
+    ensures { λ r. ⌜ StepAs r (now (words .exit)) (now (list .entry)) (now (buf .exit)) (now (table .exit)) (now (ports .exit)) (done (callOf kinds.Read (c .memory .w) (told kinds.Read (c .memory .n) (c .memory .w) port (now (ops .entry)))) (stateOf (c .memory) (now (words .entry)) (now (list .entry)) (now (ports .entry))) (c .at) (out (now (buf .entry)) (c .text))) ⌝ }
 {
     let memory = c.memory;
     let size = 2 * (memory.w as usize);
@@ -93,18 +97,20 @@ pub fn do_check(
     c: Run,
     ops: &[u32],
 ) -> Step
-    requires { ⌜ Ready (c .memory) (now words) (now list) (now table) × (length (now ops) ≡ 1 + 2 * c .memory .n + 2 * c .memory .w) ⌝ }
-    ensures { λ r. ⌜ ((ps : List ℕ) → StepAs r (now (words .exit)) (now (list .entry)) (now (buf .exit)) (now (table .exit)) ps (done (callOf kinds.Check 0 (c .memory .n) (c .memory .w) (now (ops .entry))) (stateOf (c .memory) (now (words .entry)) (now (list .entry)) ps) (c .at) (out (now (buf .entry)) (c .text)))) ⌝ }
+    requires { ⌜ Ready (c .memory) (now words) (now list) (now table) × (length (now ops) ≡ sizeOf kinds.Check (c .memory .n) (c .memory .w)) ⌝ }
+    ensures { λ r. ⌜ ((ps : List ℕ) → StepAs r (now (words .exit)) (now (list .entry)) (now (buf .exit)) (now (table .exit)) ps (done (callOf kinds.Check (c .memory .w) (told kinds.Check (c .memory .n) (c .memory .w) 0 (now (ops .entry)))) (stateOf (c .memory) (now (words .entry)) (now (list .entry)) ps) (c .at) (out (now (buf .entry)) (c .text)))) ⌝ }
 {
     let memory = c.memory;
-    let a = reading::address_end(1, memory.n);
-    let d = reading::data_end(1, memory.n, memory.w);
+    let e = reading::ends_of(Kind::Check, memory.n, memory.w);
+    let b = e.control;
+    let a = e.address;
+    let d = e.word;
     let r = memory.check_on(
         words,
         list,
         table,
         ControlNode(ops[0]),
-        &ops[1..a],
+        &ops[b..a],
         &ops[a..d],
     );
     let after = r.after;

@@ -1,7 +1,9 @@
 // The kinds of accesses.
 ghost use mathlib.Core.Path.{_≡_};
 ghost use Prim.Native.Nat.{_+_, _*_, _≤_};
-ghost use Rattle.format.specs.Kinds.{kindOf, isKnown, sizeOf, leadOf, portOf};
+ghost use Rattle.format.specs.Kinds.{kindOf, isKnown};
+ghost use Rattle.reading.specs.Layout.{leadOf, portOf, endsOf, sizeOf};
+use super::Ends;
 use format::Kind;
 
 // The kind that a byte selects.
@@ -30,33 +32,44 @@ pub fn is_known(kind: Kind) -> bool
     }
 }
 
-// Where the address ends among the nodes of an access, which has so many of control before it.
-pub fn address_end(control: usize, n: u32) -> usize
+// Where control, address and data end, which stand in this order.
+fn ends(control: usize, n: u32, w: u32) -> Ends
     requires { ⌜ control ≤ 2 ⌝ }
-    ensures { λ r. ⌜ r ≡ control + 2 * n ⌝ }
+    ensures { λ r. ⌜ (r .control ≡ control) × (r .address ≡ control + 2 * n) × (r .word ≡ control + 2 * n + 2 * w) ⌝ }
 {
-    control + 2 * (n as usize)
+    let address = control + 2 * (n as usize);
+    Ends {
+        control,
+        address,
+        word: address + 2 * (w as usize),
+    }
 }
 
-// Where the data ends, which begins there.
-pub fn data_end(control: usize, n: u32, w: u32) -> usize
-    requires { ⌜ control ≤ 2 ⌝ }
-    ensures { λ r. ⌜ r ≡ control + 2 * n + 2 * w ⌝ }
+// Where control, address and data end among the nodes of an access of this kind. A read has no data.
+pub fn ends_of(kind: Kind, n: u32, w: u32) -> Ends
+    ensures { λ r. ⌜ r ≡ endsOf kind n w ⌝ }
+    ensures rising { λ r. ⌜ (r .control ≤ r .address) × (r .address ≤ r .word) ⌝ }
+    ensures whole { λ r. ⌜ r .word ≡ sizeOf kind n w ⌝ }
 {
-    address_end(control, n) + 2 * (w as usize)
+    match kind {
+        Kind::Write => ends(2, n, w),
+        Kind::Read => ends(2, n, 0),
+        Kind::Assert => ends(1, n, w),
+        Kind::Check => ends(1, n, w),
+        Kind::Unknown => Ends {
+            control: 0,
+            address: 0,
+            word: 0,
+        },
+    }
 }
 
 // How many nodes an access of this kind has.
 pub fn operands(kind: Kind, n: u32, w: u32) -> usize
     ensures { λ r. ⌜ r ≡ sizeOf kind n w ⌝ }
 {
-    match kind {
-        Kind::Write => data_end(2, n, w),
-        Kind::Read => address_end(2, n),
-        Kind::Assert => data_end(1, n, w),
-        Kind::Check => data_end(1, n, w),
-        Kind::Unknown => 0,
-    }
+    let e = ends_of(kind, n, w);
+    e.word
 }
 
 // How many bytes stand between the kind byte and the nodes: a read's port.
@@ -76,11 +89,5 @@ pub fn lead(kind: Kind) -> usize
 pub fn port_of(kind: Kind, b: u8) -> u32
     ensures { λ r. ⌜ r ≡ portOf kind b ⌝ }
 {
-    match kind {
-        Kind::Write => 0,
-        Kind::Read => b as u32,
-        Kind::Assert => 0,
-        Kind::Check => 0,
-        Kind::Unknown => 0,
-    }
+    if lead(kind) == 0 { 0 } else { b as u32 }
 }

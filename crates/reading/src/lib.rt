@@ -8,8 +8,7 @@ mod sections;
 pub use bytes::number_at;
 pub use bytes::read_numbers;
 pub use format::Kind;
-pub use kinds::address_end;
-pub use kinds::data_end;
+pub use kinds::ends_of;
 pub use kinds::kind_of;
 pub use kinds::operands;
 pub use reader::Advance;
@@ -18,6 +17,13 @@ pub use reader::access_at;
 pub use reader::begin;
 pub use reader::next;
 pub use sections::load_sections;
+
+// Where control, address and data end among the nodes of an access.
+pub struct Ends {
+    pub control: usize,
+    pub address: usize,
+    pub word: usize,
+}
 
 // An access in the file: its kind, its port, which a read alone has, and the byte where its nodes begin.
 pub enum Access {

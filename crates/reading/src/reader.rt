@@ -1,7 +1,7 @@
 // A reading of a case file: a thin struct over the functions on slices.
 ghost use mathlib.Core.Path.{_≡_};
 ghost use Rattle.format.specs.Accesses.{accessAt, goesOn};
-ghost use Rattle.reading.specs.Contract.{foundOf, Finds};
+ghost use Rattle.reading.specs.Contract.{answerOf, Finds};
 use super::Access;
 use super::Progress;
 use super::accesses;
@@ -27,7 +27,7 @@ pub fn begin<'a>(bytes: &'a [u8], at: usize) -> Reader<'a>
 
 // The next access, for a memory of n address bits and w data bits.
 pub fn next<'a>(r: Reader<'a>, n: u32, w: u32) -> Advance<'a>
-    ensures { λ a. ⌜ (foundOf (a .access) ≡ accessAt (now (r .entry .bytes)) (r .entry .at) n w) × (a .rest .bytes ≡ r .entry .bytes) × (a .rest .at ≡ goesOn (now (r .entry .bytes)) (r .entry .at) n w) ⌝ }
+    ensures { λ a. ⌜ (a .access ≡ answerOf (now (r .entry .bytes)) (r .entry .at) (accessAt (now (r .entry .bytes)) (r .entry .at) n w)) × (a .rest .bytes ≡ r .entry .bytes) × (a .rest .at ≡ goesOn (now (r .entry .bytes)) (r .entry .at) n w) ⌝ }
 {
     let f = accesses::find_access(r.bytes, r.at, n, w);
     Advance {

@@ -11,10 +11,9 @@ use Rattle.model.specs.Record.{Record}
 use Rattle.model.specs.Rows.{firstRow}
 use Rattle.format.specs.declared.Kind.{Kind}
 use Rattle.format.specs.declared.Kind.the-variants as kind
-use Rattle.format.specs.Kinds.{isKnown, sizeOf}
-use Rattle.format.specs.Bytes.{numbersAt}
+use Rattle.format.specs.Kinds.{isKnown}
 use Rattle.format.specs.Sections.{accessesIn, firstAt}
-use Rattle.format.specs.Accesses.{found, foundUnless, kindAt, portIn, nodesAt, endOf, accessAt}
+use Rattle.format.specs.Accesses.{found, foundUnless, kindAt, heldAt, endOf, accessAt}
 use Rattle.format.specs.Accesses as accesses
 use Rattle.cases.specs.Case.{callOf}
 use Rattle.cases.specs.Claims.{callsFrom, callsIn, stateIn, StandsAt, AllStand, CaseText}
@@ -29,25 +28,25 @@ stands-known : (file : List ℕ) (n w at : ℕ) → StandsAt file n w at → isK
 unfolding accessAt
 stands-known file n w at e = go (ltb at (length file)) (isKnown (kindAt file at)) (leb (endOf file at n w) (length file)) e
   where
-    go : (a b c : Bool) → foundUnless (firstRow ((10, a) ∷ (11, b) ∷ (10, c) ∷ [])) (found (kindAt file at) (portIn file at) (nodesAt file at)) ≡ found (kindAt file at) (portIn file at) (nodesAt file at) → b ≡ true
+    go : (a b c : Bool) → foundUnless (firstRow ((10, a) ∷ (11, b) ∷ (10, c) ∷ [])) (found (kindAt file at) (heldAt file at n w)) ≡ found (kindAt file at) (heldAt file at n w) → b ≡ true
     go true true c e = refl
     go true false c e = let z : _≡_ {A = ℕ} 0 1 = cc in absurd (omega arith)
     go false b c e = let z : _≡_ {A = ℕ} 0 1 = cc in absurd (omega arith)
 
 -- and its call an access
-known-access : (k : Kind) (p n w : ℕ) (ops : List ℕ) → isKnown k ≡ true → IsAccess (callOf k p n w ops)
+known-access : (k : Kind) (w : ℕ) (values : List (List ℕ)) → isKnown k ≡ true → IsAccess (callOf k w values)
 unfolding callOf
-known-access kind.Write p n w ops e = tt
-known-access kind.Read p n w ops e = tt
-known-access kind.Assert p n w ops e = tt
-known-access kind.Check p n w ops e = tt
-known-access kind.Unknown p n w ops e = absurd (false≢true e)
+known-access kind.Write w v e = tt
+known-access kind.Read w v e = tt
+known-access kind.Assert w v e = tt
+known-access kind.Check w v e = tt
+known-access kind.Unknown w v e = absurd (false≢true e)
 
 file-accesses : (file : List ℕ) (n w at m : ℕ) → AllStand file n w at m → AllAccesses (callsFrom file n w at m)
 unfolding callsFrom
 file-accesses file n w at zero t = tt
 file-accesses file n w at (suc m) t =
-    (known-access (kindAt file at) (portIn file at) n w (numbersAt file (nodesAt file at) (sizeOf (kindAt file at) n w)) (stands-known file n w at (t .0)), file-accesses file n w (endOf file at n w) m (t .1))
+    (known-access (kindAt file at) w (heldAt file at n w) (stands-known file n w at (t .0)), file-accesses file n w (endOf file at n w) m (t .1))
 
 pub case-sharpening : CaseSharpening
 unfolding CaseSharpening Sharpening CaseText

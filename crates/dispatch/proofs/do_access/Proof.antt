@@ -1,8 +1,8 @@
 use denote.Ref.{now}
 use Rattle.cases.specs.Case.{callOf}
 use Rattle.dispatch.proofs.UnknownLaws.{unknown-not}
-use Rattle.format.proofs.KindLaws.{size-write, size-read, size-assert, size-check}
-use Rattle.format.specs.Kinds.{sizeOf}
+use Rattle.format.specs.Fields.{fieldsOf}
+use Rattle.reading.specs.Layout.{leadOf, endsOf, sizeOf}
 use mathlib.Core.Path.{ap, _∙_}
 use borrow.Author.Needs.{needs}
 use Rattle.dispatch.proofs.do_access.Statement.{statement}
@@ -12,25 +12,27 @@ enum-told : tie.Need-enum-told
 enum-told c = search needs
 
 do-write-requires : tie.Need-do-write-requires
-do-write-requires c κs = (c .before .before .before .before .before .before .before .before .before .before .pre .0, c .before .before .before .before .before .before .before .before .before .before .pre .3 ∙ ap (λ k. sizeOf k (c .before .before .before .before .before .before .before .before .before .before .args .c .memory .n) (c .before .before .before .before .before .before .before .before .before .before .args .c .memory .w)) (c .before .before .before .before .enum-told .given .1) ∙ size-write (c .before .before .before .before .before .before .before .before .before .before .args .c .memory .n) (c .before .before .before .before .before .before .before .before .before .before .args .c .memory .w))
+do-write-requires c κs = (c .before .before .before .before .before .before .before .before .before .before .pre .0, c .before .before .before .before .before .before .before .before .before .before .pre .3 ∙ ap (λ k. sizeOf k (c .before .before .before .before .before .before .before .before .before .before .args .c .memory .n) (c .before .before .before .before .before .before .before .before .before .before .args .c .memory .w)) (c .before .before .before .before .enum-told .given .1))
 
 enum-told-2 : tie.Need-enum-told-2
 enum-told-2 c = search needs
 
 do-read-requires : tie.Need-do-read-requires
-do-read-requires c κs = (c .before .before .before .before .before .before .before .before .before .before .before .pre .0, c .before .before .before .before .before .before .before .before .before .before .before .pre .1, c .before .before .before .before .before .before .before .before .before .before .before .pre .3 ∙ ap (λ k. sizeOf k (c .before .before .before .before .before .before .before .before .before .before .before .args .c .memory .n) (c .before .before .before .before .before .before .before .before .before .before .before .args .c .memory .w)) (c .before .before .before .before .before .enum-told2 .given .1) ∙ size-read (c .before .before .before .before .before .before .before .before .before .before .before .args .c .memory .n) (c .before .before .before .before .before .before .before .before .before .before .before .args .c .memory .w))
+do-read-requires c κs = (c .before .before .before .before .before .before .before .before .before .before .before .pre .0, c .before .before .before .before .before .before .before .before .before .before .before .pre .1, c .before .before .before .before .before .before .before .before .before .before .before .pre .3 ∙ ap (λ k. sizeOf k (c .before .before .before .before .before .before .before .before .before .before .before .args .c .memory .n) (c .before .before .before .before .before .before .before .before .before .before .before .args .c .memory .w)) (c .before .before .before .before .before .enum-told2 .given .1))
 
 enum-told-3 : tie.Need-enum-told-3
 enum-told-3 c = search needs
 
 do-assert-requires : tie.Need-do-assert-requires
-do-assert-requires c κs = (c .before .before .before .before .before .before .before .before .before .before .pre .0, c .before .before .before .before .before .before .before .before .before .before .pre .3 ∙ ap (λ k. sizeOf k (c .before .before .before .before .before .before .before .before .before .before .args .c .memory .n) (c .before .before .before .before .before .before .before .before .before .before .args .c .memory .w)) (c .before .before .before .before .enum-told3 .given .1) ∙ size-assert (c .before .before .before .before .before .before .before .before .before .before .args .c .memory .n) (c .before .before .before .before .before .before .before .before .before .before .args .c .memory .w))
+unfolding endsOf fieldsOf
+do-assert-requires c κs = (c .before .before .before .before .before .before .before .before .before .before .pre .0, c .before .before .before .before .before .before .before .before .before .before .pre .3 ∙ ap (λ k. sizeOf k (c .before .before .before .before .before .before .before .before .before .before .args .c .memory .n) (c .before .before .before .before .before .before .before .before .before .before .args .c .memory .w)) (c .before .before .before .before .enum-told3 .given .1))
 
 enum-told-4 : tie.Need-enum-told-4
 enum-told-4 c = search needs
 
 do-check-requires : tie.Need-do-check-requires
-do-check-requires c κs = (c .before .before .before .before .before .before .before .before .before .before .pre .0, c .before .before .before .before .before .before .before .before .before .before .pre .3 ∙ ap (λ k. sizeOf k (c .before .before .before .before .before .before .before .before .before .before .args .c .memory .n) (c .before .before .before .before .before .before .before .before .before .before .args .c .memory .w)) (c .before .before .before .before .enum-told4 .given .1) ∙ size-check (c .before .before .before .before .before .before .before .before .before .before .args .c .memory .n) (c .before .before .before .before .before .before .before .before .before .before .args .c .memory .w))
+unfolding endsOf fieldsOf
+do-check-requires c κs = (c .before .before .before .before .before .before .before .before .before .before .pre .0, c .before .before .before .before .before .before .before .before .before .before .pre .3 ∙ ap (λ k. sizeOf k (c .before .before .before .before .before .before .before .before .before .before .args .c .memory .n) (c .before .before .before .before .before .before .before .before .before .before .args .c .memory .w)) (c .before .before .before .before .enum-told4 .given .1))
 
 enum-told-5 : tie.Need-enum-told-5
 enum-told-5 c = search needs
@@ -45,7 +47,7 @@ same-length-3 : tie.Need-same-length-3
 same-length-3 c = search needs
 
 returns : tie.Need-returns
-unfolding callOf
+unfolding callOf leadOf fieldsOf
 returns c = rw (c .before .before .before .before .before .before .before .before .before .before .before .enum-told .given .1) (c .before .before .before .before .before .before .do-write .ensures (now (c .before .before .before .before .before .before .before .before .before .before .before .before .before .before .before .before .before .args .ports)))
 
 same-length-4 : tie.Need-same-length-4
@@ -70,7 +72,7 @@ same-length-9 : tie.Need-same-length-9
 same-length-9 c = search needs
 
 returns-3 : tie.Need-returns-3
-unfolding callOf
+unfolding callOf leadOf fieldsOf
 returns-3 c = rw (c .before .before .before .before .before .before .before .before .before .before .before .enum-told3 .given .1) (c .before .before .before .before .before .before .do-assert .ensures (now (c .before .before .before .before .before .before .before .before .before .before .before .before .before .before .before .before .before .args .ports)))
 
 same-length-10 : tie.Need-same-length-10
@@ -83,7 +85,7 @@ same-length-12 : tie.Need-same-length-12
 same-length-12 c = search needs
 
 returns-4 : tie.Need-returns-4
-unfolding callOf
+unfolding callOf leadOf fieldsOf
 returns-4 c = rw (c .before .before .before .before .before .before .before .before .before .enum-told4 .given .1) (c .before .before .before .before .do-check .ensures (now (c .before .before .before .before .before .before .before .before .before .before .before .before .before .before .before .args .ports)))
 
 returns-5 : tie.Need-returns-5

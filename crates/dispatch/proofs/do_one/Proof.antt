@@ -1,7 +1,7 @@
 use Rattle.entering.proofs.WordLaws.{valid-ported}
 use Rattle.dispatch.proofs.OneLaws.{step-here, one-missing, step-ports}
 use Rattle.reading.proofs.FindLaws.{access-here}
-use Rattle.format.proofs.KindLaws.{size-most}
+use Rattle.reading.proofs.LayoutLaws.{size-most}
 use Rattle.rows.proofs.CallLaws.{valid-few}
 use lib.ListN.{length-take}
 use native.Mathlib.Omega.{arith}
@@ -26,7 +26,7 @@ slice-aggregate-read-access : tie.Need-slice-aggregate-read-access
 slice-aggregate-read-access c = let f = valid-few _ (c .before .before .before .before .before .before .before .before .before .before .before .before .before .before .before .before .before .pre .0 .valid) in let z = size-most (c .before .before .before .before .before .before .before .before .before .before .before .before .before .before .before .before .before .args .c .memory .n) (c .before .before .before .before .before .before .before .before .before .before .before .before .before .before .before .before .before .args .c .memory .w) (c .before .before .before .before .before .before .before .before .access .given .0 .0) in simp length-take (omega (arith, f .0, f .1, z, c .before .before .before .before .before .before .operands .ensures))
 
 read-access-requires : tie.Need-read-access-requires
-read-access-requires c κs = let f = valid-few _ (c .before .before .before .before .before .before .before .before .before .before .before .before .before .before .before .before .before .pre .0 .valid) in let z = size-most (c .before .before .before .before .before .before .before .before .before .before .before .before .before .before .before .before .before .args .c .memory .n) (c .before .before .before .before .before .before .before .before .before .before .before .before .before .before .before .before .before .args .c .memory .w) (c .before .before .before .before .before .before .before .before .access .given .0 .0) in let L = access-here (now (c .before .before .before .before .before .before .before .before .before .before .before .before .before .before .before .before .before .args .file)) (c .before .before .before .before .before .before .before .before .before .before .before .before .before .before .before .before .before .args .c .at) (c .before .before .before .before .before .before .before .before .before .before .before .before .before .before .before .before .before .args .c .memory .n) (c .before .before .before .before .before .before .before .before .before .before .before .before .before .before .before .before .before .args .c .memory .w) (c .before .before .before .before .before .before .before .before .access .given .1) (c .before .before .before .before .before .before .before .before .before .before .access-at .ensures .0) in let s = c .before .before .before .before .before .before .operands .ensures in (c .before .before .before .before .before .before .before .before .before .before .before .before .before .before .before .before .before .pre .0, c .before .before .before .before .before .before .before .before .before .before .before .before .before .before .before .before .before .pre .1, L .known, simp length-take (omega (arith, f .0, f .1, z, s)), simp length-take (omega (arith, f .0, f .1, z, s, L .end-is, L .inside)))
+read-access-requires c κs = let f = valid-few _ (c .before .before .before .before .before .before .before .before .before .before .before .before .before .before .before .before .before .pre .0 .valid) in let z = size-most (c .before .before .before .before .before .before .before .before .before .before .before .before .before .before .before .before .before .args .c .memory .n) (c .before .before .before .before .before .before .before .before .before .before .before .before .before .before .before .before .before .args .c .memory .w) (c .before .before .before .before .before .before .before .before .access .given .0 .0) in let L = access-here (now (c .before .before .before .before .before .before .before .before .before .before .before .before .before .before .before .before .before .args .file)) (c .before .before .before .before .before .before .before .before .before .before .before .before .before .before .before .before .before .args .c .at) (c .before .before .before .before .before .before .before .before .before .before .before .before .before .before .before .before .before .args .c .memory .n) (c .before .before .before .before .before .before .before .before .before .before .before .before .before .before .before .before .before .args .c .memory .w) (c .before .before .before .before .before .before .before .before .access .given .1) (c .before .before .before .before .before .before .before .before .before .before .access-at .ensures .0) in let s = c .before .before .before .before .before .before .operands .ensures in (c .before .before .before .before .before .before .before .before .before .before .before .before .before .before .before .before .before .pre .0, c .before .before .before .before .before .before .before .before .before .before .before .before .before .before .before .before .before .pre .1, L .known, simp length-take (omega (arith, f .0, f .1, z, s)), simp length-take (omega (arith, f .0, f .1, z, s, L .inside)))
 
 enum-known-access-2 : tie.Need-enum-known-access-2
 enum-known-access-2 c = search needs

@@ -1,12 +1,11 @@
-use mathlib.Core.List.{[]}
-use Rattle.entering.proofs.WordLaws.{asserted-below}
-use Rattle.model.proofs.ListLaws.{part-size}
 use Rattle.entering.proofs.StepLaws.{any-as, step-on, step-stop}
-use Rattle.entering.proofs.WordLaws.{valid-ported}
+use Rattle.entering.proofs.WordLaws.{asserted-below, valid-ported}
+use Rattle.entering.proofs.CallLaws.{assert-told, assert-cut}
 use Rattle.memory.specs.Contract.{assertAnswer}
-use Rattle.cases.specs.Case.{callOf}
+use Rattle.format.specs.declared.Kind.the-variants as kinds
+use Rattle.reading.proofs.LayoutLaws.{known-size}
 use Rattle.text.specs.Text.{out}
-use Prim.Native.Nat.{_+_, _*_}
+use mathlib.Core.List.{[]}
 use mathlib.Core.Path.{refl}
 use native.Mathlib.Omega.{arith}
 use denote.Ref.{now}
@@ -14,14 +13,14 @@ use borrow.Author.Needs.{needs}
 use Rattle.entering.proofs.do_assert.Statement.{statement}
 use Rattle.entering.proofs.do_assert.Tie as tie
 
-address-end-requires : tie.Need-address-end-requires
-address-end-requires c κs = search needs
+ends-of-requires : tie.Need-ends-of-requires
+ends-of-requires c κs = search needs
 
-data-end-requires : tie.Need-data-end-requires
-data-end-requires c κs = search needs
+shared-slice-read-t25 : tie.Need-shared-slice-read-t25
+shared-slice-read-t25 c = omega (arith, c .before .before .before .before .before .before .before .before .before .before .pre .1, known-size (c .before .before .before .before .before .before .before .before .before .before .args .c .memory .n) (c .before .before .before .before .before .before .before .before .before .before .args .c .memory .w) kinds.Assert refl)
 
-shared-slice-read-t22 : tie.Need-shared-slice-read-t22
-shared-slice-read-t22 c = search needs
+mul-assert-on : tie.Need-mul-assert-on
+mul-assert-on c = search needs
 
 sub-assert-on : tie.Need-sub-assert-on
 sub-assert-on c = search needs
@@ -32,8 +31,8 @@ part-assert-on-start c = search needs
 part-assert-on-end : tie.Need-part-assert-on-end
 part-assert-on-end c = search needs
 
-mul-assert-on : tie.Need-mul-assert-on
-mul-assert-on c = search needs
+mul-assert-on-2 : tie.Need-mul-assert-on-2
+mul-assert-on-2 c = search needs
 
 sub-assert-on-2 : tie.Need-sub-assert-on-2
 sub-assert-on-2 c = search needs
@@ -45,13 +44,13 @@ part-assert-on-end-2 : tie.Need-part-assert-on-end-2
 part-assert-on-end-2 c = search needs
 
 assert-on-requires : tie.Need-assert-on-requires
-assert-on-requires c κs = rw (c .before .before .before .before .before .before .data-end .ensures, c .before .before .before .before .before .before .before .address-end .ensures) (c .before .before .before .before .before .before .before .before .before .before .before .before .before .pre .0 .valid, c .before .before .before .before .before .before .before .before .before .before .before .before .before .pre .0 .sound, part-size (now (c .before .before .before .before .before .before .before .before .before .before .before .before .before .args .ops)) 1 (2 * c .before .before .before .before .before .before .before .before .before .before .before .before .before .args .c .memory .n) (omega (arith, c .before .before .before .before .before .before .before .before .before .before .before .before .before .pre .1)), part-size (now (c .before .before .before .before .before .before .before .before .before .before .before .before .before .args .ops)) (1 + 2 * c .before .before .before .before .before .before .before .before .before .before .before .before .before .args .c .memory .n) (2 * c .before .before .before .before .before .before .before .before .before .before .before .before .before .args .c .memory .w) (omega (arith, c .before .before .before .before .before .before .before .before .before .before .before .before .before .pre .1)))
+assert-on-requires c κs = let L = assert-cut (c .before .before .before .before .before .before .before .before .before .before .before .before .args .c .memory .n) (c .before .before .before .before .before .before .before .before .before .before .before .before .args .c .memory .w) (now (c .before .before .before .before .before .before .before .before .before .before .before .before .args .ops)) (c .before .before .before .before .before .before .ends-of .result) (c .before .before .before .before .before .before .ends-of .ensures .0) (c .before .before .before .before .before .before .before .before .before .before .before .before .pre .1) in (c .before .before .before .before .before .before .before .before .before .before .before .before .pre .0 .valid, c .before .before .before .before .before .before .before .before .before .before .before .before .pre .0 .sound, L .1, L .2)
 
 enum-told : tie.Need-enum-told
 enum-told c = search needs
 
 put-assert-requires : tie.Need-put-assert-requires
-put-assert-requires c κs = asserted-below _ (c .before .before .before .before .before .before .before .before .before .before .before .before .before .before .before .before .before .before .before .before .before .before .before .pre .0 .valid) (c .before .before .before .before .before .before .before .before .before .assert-on .ensures .is [])
+put-assert-requires c κs = asserted-below _ (c .before .before .before .before .before .before .before .before .before .before .before .before .before .before .before .before .before .before .before .before .before .before .pre .0 .valid) (c .before .before .before .before .before .before .before .before .before .assert-on .ensures .is [])
 
 printed-requires : tie.Need-printed-requires
 printed-requires c κs = search needs
@@ -60,7 +59,7 @@ enum-told-2 : tie.Need-enum-told-2
 enum-told-2 c = search needs
 
 put-assert-requires-2 : tie.Need-put-assert-requires-2
-put-assert-requires-2 c κs = asserted-below _ (c .before .before .before .before .before .before .before .before .before .before .before .before .before .before .before .before .before .before .before .before .before .before .before .pre .0 .valid) (c .before .before .before .before .before .before .before .before .before .assert-on .ensures .is [])
+put-assert-requires-2 c κs = asserted-below _ (c .before .before .before .before .before .before .before .before .before .before .before .before .before .before .before .before .before .before .before .before .before .before .pre .0 .valid) (c .before .before .before .before .before .before .before .before .before .assert-on .ensures .is [])
 
 printed-requires-2 : tie.Need-printed-requires-2
 printed-requires-2 c κs = search needs
@@ -78,8 +77,7 @@ same-length-3 : tie.Need-same-length-3
 same-length-3 c = search needs
 
 returns : tie.Need-returns
-unfolding callOf
-returns c = λ ps. rw (← c .before .before .before .before .before .before .before .before .before .before .before .before .before .before .before .before .before .before .before .before .data-end .ensures, ← c .before .before .before .before .before .before .before .before .before .before .before .before .before .before .before .before .before .before .before .before .before .address-end .ensures) (step-on _ (valid-ported (c .before .before .before .before .before .before .before .before .before .before .before .before .before .before .before .before .before .before .before .before .before .before .before .before .before .before .before .args .c .memory) (now (c .before .before .before .before .before .before .before .before .before .before .before .before .before .before .before .before .before .before .before .before .before .before .before .before .before .before .before .args .words)) (now (c .before .before .before .before .before .before .before .before .before .before .before .before .before .before .before .before .before .before .before .before .before .before .before .before .before .before .before .args .list)) ps (c .before .before .before .before .before .before .before .before .before .before .before .before .before .before .before .before .before .before .before .before .before .before .before .before .before .before .before .pre .0 .valid)) (any-as assertAnswer (c .before .before .before .before .before .before .enum-told .given .1) (c .before .before .before .before .before .before .before .before .before .before .before .before .before .assert-on .ensures) ps) (c .before .before .before .before .before .before .before .before .before .before .before .before .before .before .before .before .before .before .before .before .before .before .before .before .before .before .before .args .c .at) (out (now (c .before .before .before .before .before .before .before .before .before .before .before .before .before .before .before .before .before .before .before .before .before .before .before .before .before .before .before .args .buf)) (c .before .before .before .before .before .before .before .before .before .before .before .before .before .before .before .before .before .before .before .before .before .before .before .before .before .before .before .args .c .text)) refl (c .before .before .before .put-assert .ensures) (c .printed .ensures))
+returns c = λ ps. rw (assert-told (c .before .before .before .before .before .before .before .before .before .before .before .before .before .before .before .before .before .before .before .before .before .before .before .before .before .before .args .c .memory .n) (c .before .before .before .before .before .before .before .before .before .before .before .before .before .before .before .before .before .before .before .before .before .before .before .before .before .before .args .c .memory .w) (now (c .before .before .before .before .before .before .before .before .before .before .before .before .before .before .before .before .before .before .before .before .before .before .before .before .before .before .args .ops)) (c .before .before .before .before .before .before .before .before .before .before .before .before .before .before .before .before .before .before .before .before .ends-of .result) 0 (c .before .before .before .before .before .before .before .before .before .before .before .before .before .before .before .before .before .before .before .before .ends-of .ensures .0)) (step-on _ (valid-ported (c .before .before .before .before .before .before .before .before .before .before .before .before .before .before .before .before .before .before .before .before .before .before .before .before .before .before .args .c .memory) (now (c .before .before .before .before .before .before .before .before .before .before .before .before .before .before .before .before .before .before .before .before .before .before .before .before .before .before .args .words)) (now (c .before .before .before .before .before .before .before .before .before .before .before .before .before .before .before .before .before .before .before .before .before .before .before .before .before .before .args .list)) ps (c .before .before .before .before .before .before .before .before .before .before .before .before .before .before .before .before .before .before .before .before .before .before .before .before .before .before .pre .0 .valid)) (any-as assertAnswer (c .before .before .before .before .before .before .enum-told .given .1) (c .before .before .before .before .before .before .before .before .before .before .before .before .before .assert-on .ensures) ps) (c .before .before .before .before .before .before .before .before .before .before .before .before .before .before .before .before .before .before .before .before .before .before .before .before .before .before .args .c .at) (out (now (c .before .before .before .before .before .before .before .before .before .before .before .before .before .before .before .before .before .before .before .before .before .before .before .before .before .before .args .buf)) (c .before .before .before .before .before .before .before .before .before .before .before .before .before .before .before .before .before .before .before .before .before .before .before .before .before .before .args .c .text)) refl (c .before .before .before .put-assert .ensures) (c .printed .ensures))
 
 same-length-4 : tie.Need-same-length-4
 same-length-4 c = search needs
@@ -91,8 +89,7 @@ same-length-6 : tie.Need-same-length-6
 same-length-6 c = search needs
 
 returns-2 : tie.Need-returns-2
-unfolding callOf
-returns-2 c = λ ps. rw (← c .before .before .before .before .before .before .before .before .before .before .before .before .before .before .before .before .before .before .before .before .data-end .ensures, ← c .before .before .before .before .before .before .before .before .before .before .before .before .before .before .before .before .before .before .before .before .before .address-end .ensures) (step-on _ (valid-ported (c .before .before .before .before .before .before .before .before .before .before .before .before .before .before .before .before .before .before .before .before .before .before .before .before .before .before .before .args .c .memory) (now (c .before .before .before .before .before .before .before .before .before .before .before .before .before .before .before .before .before .before .before .before .before .before .before .before .before .before .before .args .words)) (now (c .before .before .before .before .before .before .before .before .before .before .before .before .before .before .before .before .before .before .before .before .before .before .before .before .before .before .before .args .list)) ps (c .before .before .before .before .before .before .before .before .before .before .before .before .before .before .before .before .before .before .before .before .before .before .before .before .before .before .before .pre .0 .valid)) (any-as assertAnswer (c .before .before .before .before .before .before .enum-told2 .given .1) (c .before .before .before .before .before .before .before .before .before .before .before .before .before .assert-on .ensures) ps) (c .before .before .before .before .before .before .before .before .before .before .before .before .before .before .before .before .before .before .before .before .before .before .before .before .before .before .before .args .c .at) (out (now (c .before .before .before .before .before .before .before .before .before .before .before .before .before .before .before .before .before .before .before .before .before .before .before .before .before .before .before .args .buf)) (c .before .before .before .before .before .before .before .before .before .before .before .before .before .before .before .before .before .before .before .before .before .before .before .before .before .before .before .args .c .text)) refl (c .before .before .before .put-assert2 .ensures) (c .printed2 .ensures))
+returns-2 c = λ ps. rw (assert-told (c .before .before .before .before .before .before .before .before .before .before .before .before .before .before .before .before .before .before .before .before .before .before .before .before .before .before .args .c .memory .n) (c .before .before .before .before .before .before .before .before .before .before .before .before .before .before .before .before .before .before .before .before .before .before .before .before .before .before .args .c .memory .w) (now (c .before .before .before .before .before .before .before .before .before .before .before .before .before .before .before .before .before .before .before .before .before .before .before .before .before .before .args .ops)) (c .before .before .before .before .before .before .before .before .before .before .before .before .before .before .before .before .before .before .before .before .ends-of .result) 0 (c .before .before .before .before .before .before .before .before .before .before .before .before .before .before .before .before .before .before .before .before .ends-of .ensures .0)) (step-on _ (valid-ported (c .before .before .before .before .before .before .before .before .before .before .before .before .before .before .before .before .before .before .before .before .before .before .before .before .before .before .args .c .memory) (now (c .before .before .before .before .before .before .before .before .before .before .before .before .before .before .before .before .before .before .before .before .before .before .before .before .before .before .args .words)) (now (c .before .before .before .before .before .before .before .before .before .before .before .before .before .before .before .before .before .before .before .before .before .before .before .before .before .before .args .list)) ps (c .before .before .before .before .before .before .before .before .before .before .before .before .before .before .before .before .before .before .before .before .before .before .before .before .before .before .pre .0 .valid)) (any-as assertAnswer (c .before .before .before .before .before .before .enum-told2 .given .1) (c .before .before .before .before .before .before .before .before .before .before .before .before .before .assert-on .ensures) ps) (c .before .before .before .before .before .before .before .before .before .before .before .before .before .before .before .before .before .before .before .before .before .before .before .before .before .before .args .c .at) (out (now (c .before .before .before .before .before .before .before .before .before .before .before .before .before .before .before .before .before .before .before .before .before .before .before .before .before .before .args .buf)) (c .before .before .before .before .before .before .before .before .before .before .before .before .before .before .before .before .before .before .before .before .before .before .before .before .before .before .args .c .text)) refl (c .before .before .before .put-assert2 .ensures) (c .printed2 .ensures))
 
 same-length-7 : tie.Need-same-length-7
 same-length-7 c = search needs
@@ -101,20 +98,19 @@ same-length-8 : tie.Need-same-length-8
 same-length-8 c = search needs
 
 returns-3 : tie.Need-returns-3
-unfolding callOf
-returns-3 c = λ ps. rw (← c .before .before .before .before .before .before .before .before .before .before .before .before .before .before .before .data-end .ensures, ← c .before .before .before .before .before .before .before .before .before .before .before .before .before .before .before .before .address-end .ensures) (step-stop _ (c .before .before .before .before .before .before .before .before .before .before .before .before .before .before .before .before .before .before .before .before .before .before .args .c .at) (out (now (c .before .before .before .before .before .before .before .before .before .before .before .before .before .before .before .before .before .before .before .before .before .before .args .buf)) (c .before .before .before .before .before .before .before .before .before .before .before .before .before .before .before .before .before .before .before .before .before .before .args .c .text)) (any-as assertAnswer (c .before .answer .given .1) (c .before .before .before .before .before .before .before .before .assert-on .ensures) ps))
+returns-3 c = λ ps. rw (assert-told (c .before .before .before .before .before .before .before .before .before .before .before .before .before .before .before .before .before .before .before .before .before .args .c .memory .n) (c .before .before .before .before .before .before .before .before .before .before .before .before .before .before .before .before .before .before .before .before .before .args .c .memory .w) (now (c .before .before .before .before .before .before .before .before .before .before .before .before .before .before .before .before .before .before .before .before .before .args .ops)) (c .before .before .before .before .before .before .before .before .before .before .before .before .before .before .before .ends-of .result) 0 (c .before .before .before .before .before .before .before .before .before .before .before .before .before .before .before .ends-of .ensures .0)) (step-stop _ (c .before .before .before .before .before .before .before .before .before .before .before .before .before .before .before .before .before .before .before .before .before .args .c .at) (out (now (c .before .before .before .before .before .before .before .before .before .before .before .before .before .before .before .before .before .before .before .before .before .args .buf)) (c .before .before .before .before .before .before .before .before .before .before .before .before .before .before .before .before .before .before .before .before .before .args .c .text)) (any-as assertAnswer (c .before .answer .given .1) (c .before .before .before .before .before .before .before .before .assert-on .ensures) ps))
 
 pub do-assert-spec : {M : Type 1} → statement M
 do-assert-spec =
     tie.close
     (tie.spec
-    address-end-requires
-    data-end-requires
-    shared-slice-read-t22
+    ends-of-requires
+    shared-slice-read-t25
+    mul-assert-on
     sub-assert-on
     part-assert-on-start
     part-assert-on-end
-    mul-assert-on
+    mul-assert-on-2
     sub-assert-on-2
     part-assert-on-start-2
     part-assert-on-end-2

@@ -1,6 +1,6 @@
 use denote.Ref.{now}
 use Rattle.reading.proofs.FindLaws.{no-kind, kind-unknown, ends-early, next-byte, stands}
-use Rattle.format.proofs.KindLaws.{size-most, lead-most}
+use Rattle.reading.proofs.LayoutLaws.{size-most, lead-most}
 use native.Mathlib.Omega.{arith}
 use mathlib.Core.Path.{refl}
 use borrow.Author.Needs.{needs}

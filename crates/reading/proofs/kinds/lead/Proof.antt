@@ -1,4 +1,5 @@
-use Rattle.format.specs.Kinds.{leadOf}
+use Rattle.format.specs.Fields.{fieldsOf}
+use Rattle.reading.specs.Layout.{leadOf}
 use borrow.Author.Needs.{needs}
 use Rattle.reading.proofs.kinds.lead.Statement.{statement}
 use Rattle.reading.proofs.kinds.lead.Tie as tie
@@ -19,23 +20,23 @@ enum-told-5 : tie.Need-enum-told-5
 enum-told-5 c = search needs
 
 returns : tie.Need-returns
-unfolding leadOf
+unfolding leadOf fieldsOf
 returns c = rw (c .enum-told .given .1)
 
 returns-2 : tie.Need-returns-2
-unfolding leadOf
+unfolding leadOf fieldsOf
 returns-2 c = rw (c .enum-told2 .given .1)
 
 returns-3 : tie.Need-returns-3
-unfolding leadOf
+unfolding leadOf fieldsOf
 returns-3 c = rw (c .enum-told3 .given .1)
 
 returns-4 : tie.Need-returns-4
-unfolding leadOf
+unfolding leadOf fieldsOf
 returns-4 c = rw (c .enum-told4 .given .1)
 
 returns-5 : tie.Need-returns-5
-unfolding leadOf
+unfolding leadOf fieldsOf
 returns-5 c = rw (c .enum-told5 .given .1)
 
 pub lead-spec : {M : Type 1} → statement M

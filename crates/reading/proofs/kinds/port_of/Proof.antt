@@ -1,54 +1,17 @@
-use Rattle.format.specs.Kinds.{portOf}
+use Rattle.reading.proofs.LayoutLaws.{port-none, port-byte}
+use mathlib.Core.Path.{sym, _∙_}
 use borrow.Author.Needs.{needs}
 use Rattle.reading.proofs.kinds.port_of.Statement.{statement}
 use Rattle.reading.proofs.kinds.port_of.Tie as tie
 
-enum-told : tie.Need-enum-told
-enum-told c = search needs
-
-enum-told-2 : tie.Need-enum-told-2
-enum-told-2 c = search needs
-
-enum-told-3 : tie.Need-enum-told-3
-enum-told-3 c = search needs
-
-enum-told-4 : tie.Need-enum-told-4
-enum-told-4 c = search needs
-
-enum-told-5 : tie.Need-enum-told-5
-enum-told-5 c = search needs
+lead-requires : tie.Need-lead-requires
+lead-requires c κs = search needs
 
 returns : tie.Need-returns
-unfolding portOf
-returns c = rw (c .enum-told .given .1)
+returns c = port-none _ _ (sym (c .before .lead .ensures) ∙ c .if1 .taken)
 
 returns-2 : tie.Need-returns-2
-unfolding portOf
-returns-2 c = rw (c .enum-told2 .given .1)
-
-returns-3 : tie.Need-returns-3
-unfolding portOf
-returns-3 c = rw (c .enum-told3 .given .1)
-
-returns-4 : tie.Need-returns-4
-unfolding portOf
-returns-4 c = rw (c .enum-told4 .given .1)
-
-returns-5 : tie.Need-returns-5
-unfolding portOf
-returns-5 c = rw (c .enum-told5 .given .1)
+returns-2 c = port-byte _ _ (λ z. c .if1 .left (c .before .lead .ensures ∙ z))
 
 pub port-of-spec : {M : Type 1} → statement M
-port-of-spec =
-    tie.close
-    (tie.spec
-    enum-told
-    enum-told-2
-    enum-told-3
-    enum-told-4
-    enum-told-5
-    returns
-    returns-2
-    returns-3
-    returns-4
-    returns-5)
+port-of-spec = tie.close (tie.spec lead-requires returns returns-2)

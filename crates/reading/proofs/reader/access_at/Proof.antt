@@ -43,7 +43,7 @@ use denote.Triple.Walked.{says, Stays, stay-none-slice, stay-none, walkOf, goes-
 use denote.Exit.{yes}
 use denote.Triple.Clauses.{ensured, lasts}
 use Rattle.format.specs.Accesses.{accessAt, goesOn}
-use Rattle.reading.specs.Contract.{foundOf, Finds}
+use Rattle.reading.specs.Contract.{answerOf, Finds}
 use Rattle.reading.specs.declared.reader.Reader.{Reader}
 use Rattle.reading.specs.declared.reader.Advance.{Advance}
 use Rattle.reading.specs.declared.Access.{Access}
@@ -127,7 +127,7 @@ module _ {M : Type 1} (𝓤 : URA M) (H : Heap 𝓤) (A : Atoms 𝓤) (W : Given
 
   -- what `next` promises of its result
   abbrev Said : Reader → Advance → Type 0
-  Said r t = (foundOf (t .access) ≡ accessAt (now (r .bytes)) (r .at) n w) × (t .rest .bytes ≡ r .bytes) × (t .rest .at ≡ goesOn (now (r .bytes)) (r .at) n w)
+  Said r t = (t .access ≡ answerOf (now (r .bytes)) (r .at) (accessAt (now (r .bytes)) (r .at) n w)) × (t .rest .bytes ≡ r .bytes) × (t .rest .at ≡ goesOn (now (r .bytes)) (r .at) n w)
 
   next-said : (r : Reader) (t : Advance) → ent 𝓤 (ensured 𝓤 H A next.ended (next.clauses 𝓤 H A mem run) (κ, tt) (r, (n, (w, tt))) tt t) (fact 𝓤 (Said r t))
   next-said r t = exE 𝓤 _ (λ ws. snd∗ 𝓤 (sem 𝓤 H A (lasts next.ended (κ, tt) (r, (n, (w, tt))) ws)) (fact 𝓤 (Said r t)))
@@ -161,8 +161,8 @@ module _ {M : Type 1} (𝓤 : URA M) (H : Heap 𝓤) (A : Atoms 𝓤) (W : Given
 
   finds : (r : Reader) (t : Advance) → (r .bytes ≡ s) × (r .at ≡ pos) → Said r t → Finds (result t) (now s) pos n w
   finds r t e f =
-      let g : (accessAt (now (r .bytes)) (r .at) n w ≡ accessAt (now s) pos n w) × (goesOn (now (r .bytes)) (r .at) n w ≡ goesOn (now s) pos n w) =
-      (λ i. accessAt (now (e .0 i)) (e .1 i) n w, λ i. goesOn (now (e .0 i)) (e .1 i) n w) in
+      let g : (answerOf (now (r .bytes)) (r .at) (accessAt (now (r .bytes)) (r .at) n w) ≡ answerOf (now s) pos (accessAt (now s) pos n w)) × (goesOn (now (r .bytes)) (r .at) n w ≡ goesOn (now s) pos n w) =
+      (λ i. answerOf (now (e .0 i)) (e .1 i) (accessAt (now (e .0 i)) (e .1 i) n w), λ i. goesOn (now (e .0 i)) (e .1 i) n w) in
       (f .0 ∙ g .0, f .2 ∙ g .1)
 
   exits : (t : Advance) → pos < 2 ^ 64 → n < 2 ^ 32 → w < 2 ^ 32 → Finds (result t) (now s) pos n w → ent 𝓤 (⋆ 𝓤 H A (‵ (G.the-row .own (result t) (resultVal t ∷ [])) ∷ (‵ (flft κ q) ⊛ ‵ ftrue) ∷ ‵ Own ∷ [])) (Post (resultVal t))

@@ -45,7 +45,7 @@ use denote.Triple.Walked.{says, Stays, stay-none, walkOf, goes-none, Walks, ends
 use denote.Exit.{yes}
 use denote.Triple.Clauses.{ensured, lasts}
 use Rattle.format.specs.Accesses.{accessAt, goesOn}
-use Rattle.reading.specs.Contract.{foundOf, Finds}
+use Rattle.reading.specs.Contract.{answerOf, Finds}
 use Rattle.reading.specs.declared.reader.Reader.{Reader}
 use Rattle.reading.specs.declared.reader.Advance.{Advance}
 use Rattle.reading.specs.declared.Access.{Access}
