@@ -968,7 +968,7 @@ class Orders(unittest.TestCase):
         self.assertEqual(self.telling.untold, {})
 
     def test_most_wrong_orders_are_told(self):
-        self.assertGreater(len(self.telling.told), 3000)
+        self.assertGreater(len(self.telling.told), 3800)
 
     def test_every_wrong_order_of_a_formula_is_told_by_a_computed_call(self):
         self.assertEqual(wrongorders.untold_formulas()[0], [])

@@ -1162,6 +1162,18 @@ class Words:
         return self.pairs(many) if self.rng.chance(80) else self.nodes(2 * many)
 
 
+def node_below(rng, nodes, limit):
+    """A node that holds only where a table does: where another holds too, with the nodes that it needs."""
+    tables = tables_of(nodes)
+    table = limit & rng.choice(tables) & (TRUE if rng.chance(50) else not_(rng.choice(tables)))
+    for part in parts_of(table):
+        if part not in tables:
+            variable, low, high = SPACE.parts(part)
+            nodes = [*nodes, (variable, tables.index(low), tables.index(high))]
+            tables.append(part)
+    return nodes, tables.index(table)
+
+
 def random_line(rng, kinds=(WRITE, READ, ASSERT, CHECK)):
     nodes = random_nodes(rng)
     words = Words(rng, nodes)
@@ -1173,10 +1185,16 @@ def random_line(rng, kinds=(WRITE, READ, ASSERT, CHECK)):
     for _ in range(many):
         entries += words.nodes(2) + words.any_pairs(n) + words.any_pairs(w)
     b = words.node()
+    address = words.pairs(n, words.tables[b] if kind == ASSERT else 0)
+    if kind == ASSERT and rng.chance(60):
+        address = words.pairs(n)
+        known = TRUE
+        for h, l in calls.pairs(address):
+            known &= not_(words.tables[h] & words.tables[l])
+        nodes, b = node_below(rng, nodes, known)
     control = words.pair() if kind in (WRITE, READ) else [b]
     if kind == WRITE and control[0] == 0:
         control = [1, control[1]]
-    address = words.pairs(n, words.tables[b] if kind == ASSERT else 0)
     data = [0] * (2 * w) if kind == READ else words.pairs(w)
     port = rng.below(4) if kind == READ else 0
     held = words.any_pairs(w) if kind == READ else ()
