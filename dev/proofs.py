@@ -443,11 +443,25 @@ def write(path, text):
         f.write(text)
 
 
-def code_sum(base):
-    """Of the code of all crates: what the places of a function hang on."""
+def stands_on(base, crate):
+    """A crate and all that it stands on."""
+    lines = (line.split("#")[0] for line in read(os.path.join(base, "crates.txt")).split("\n"))
+    below = {line.split(":")[0].strip(): line.split(":")[1].split() for line in lines if ":" in line}
+    seen, todo = set(), [crate]
+    while todo:
+        name = todo.pop()
+        if name not in seen:
+            seen.add(name)
+            todo += below.get(name, [])
+    return sorted(seen)
+
+
+def code_sum(base, crate):
+    """Of the code of a crate and of those below it: what the places of a function hang on."""
     total = hashlib.sha256()
-    for path in sorted(glob.glob(os.path.join(glob.escape(base), "crates", "*", "src", "**", "*.rt"), recursive=True)):
-        total.update((os.path.relpath(path, base) + "\0" + read(path)).encode())
+    for name in stands_on(base, crate):
+        for path in sorted(glob.glob(os.path.join(glob.escape(base), "crates", name, "src", "**", "*.rt"), recursive=True)):
+            total.update((os.path.relpath(path, base) + "\0" + read(path)).encode())
     return total.hexdigest()
 
 
@@ -455,7 +469,7 @@ def goals(base, crate):
     """The folder with the goals of a crate's code as it is now, made again where the code has changed."""
     folder = os.path.join(base, "target", "named", "goals", crate)
     stamp = os.path.join(folder, "code")
-    now = code_sum(base)
+    now = code_sum(base, crate)
     if not os.path.exists(stamp) or read(stamp) != now:
         print("the goals of %s are made ..." % crate, file=sys.stderr)
         subprocess.run(["rt", "dev", crate, "--generated", folder], cwd=base, stdout=subprocess.DEVNULL, stderr=subprocess.DEVNULL)

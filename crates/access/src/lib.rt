@@ -3,6 +3,7 @@ ghost use mathlib.Core.Path.{_≡_};
 ghost use Prim.Native.Nat.{_*_, _<_, _≤_};
 ghost use lib.ListN.{length, getD};
 ghost use Rattle.conditions.specs.Contract.{Sound, Did};
+ghost use Rattle.model.specs.Record.{cellWords, dataWords};
 ghost use Rattle.model.specs.Access.{Certain, Write, EachHalf, holdHalf, Read, insideHalf, Inside};
 ghost use Rattle.access.specs.Contract.{Nodes, WordDid, MarksDid, shape, Looks};
 use conditions::Built;
@@ -10,6 +11,7 @@ use conditions::Store;
 use conditions::Table;
 pub use lookup::look;
 use merging::DataNode;
+use semantics::Sizes;
 
 // A node number of the control domain.
 pub struct ControlNode(pub u32);
@@ -154,8 +156,7 @@ pub fn read_word(
     words: &mut [u32],
     table: &mut Table,
     s: Store,
-    n: usize,
-    w: usize,
+    z: Sizes,
     entries: usize,
     list: &[u32],
     c: ControlPair,
@@ -163,10 +164,10 @@ pub fn read_word(
     held: &[u32],
     word: &mut [u32],
 ) -> Store
-    requires { ⌜ Sound (now words) (now table) s × Looks n w entries (s .count) (now list) (now address) × (length (now word) ≡ 2 * w) × (c .h .0 < s .count) × (c .l .0 < s .count) × (length (now held) ≡ 2 * w) × Nodes (s .count) (now held) ⌝ }
-    ensures { λ u. ⌜ WordDid s (now (words .exit)) (now (table .exit)) u (now (word .exit)) (Read (shape n w entries) (now (list .entry)) (now (held .entry)) (c .h .0) (c .l .0) (now (address .entry)) (now (words .entry)) s) ⌝ }
+    requires { ⌜ Sound (now words) (now table) s × Looks z entries (s .count) (now list) (now address) × (length (now word) ≡ cellWords (shape z 0)) × (c .h .0 < s .count) × (c .l .0 < s .count) × (length (now held) ≡ dataWords (shape z 0)) × Nodes (s .count) (now held) ⌝ }
+    ensures { λ u. ⌜ WordDid s (now (words .exit)) (now (table .exit)) u (now (word .exit)) (Read (shape z entries) (now (list .entry)) (now (held .entry)) (c .h .0) (c .l .0) (now (address .entry)) (now (words .entry)) s) ⌝ }
 {
-    let t = look(words, table, s, n, w, entries, list, address, word);
+    let t = look(words, table, s, z, entries, list, address, word);
     let x = conditions::and(words, table, t, c.h.0, c.l.0);
     hold(words, table, x.store, x.node, c.h, held, word)
 }

@@ -11,7 +11,8 @@ use Rattle.conditions.specs.declared.Built.{Built}
 use Rattle.conditions.specs.Build.{Outcome, Build, pure, next, forEach, outcome}
 use Rattle.conditions.specs.Contract.{Sound, Did}
 use Rattle.conditions.proofs.Promises.{next-is, each-end, each-step}
-use Rattle.model.specs.Record.{hAt, lAt, part, entryAt}
+use Rattle.semantics.specs.declared.Sizes.{Sizes}
+use Rattle.model.specs.Record.{hAt, lAt, part, size, entryAt}
 use Rattle.model.specs.Access.{halfStep}
 use Rattle.model.proofs.ListLaws.{part-length, entry-word, entry-words}
 use Rattle.addresses.specs.Contract.{Nodes, WordDid, shape, Looks}
@@ -108,23 +109,23 @@ pub part-nodes : {c : ℕ} {l : List ℕ} (a e : ℕ) → a ≤ e → e ≤ leng
 part-nodes {l = l} a e h k N = record { at = λ i m. let b : i < e - a = omega (arith, part-length l a e h k) in rw (getD-take (e - a) (drop a l) i 0 b, getD-drop a l i 0) (N .at (a + i) (omega arith)) }
 
 -- an entry of the list is within it, and its words are nodes
-module _ {n w k c : ℕ} {list address : List ℕ} (L : Looks n w k c list address) (j : ℕ) (h : j < k) where
-  pub entry-fits : j * (2 + 2 * n + 2 * w) + (2 + 2 * n + 2 * w) ≤ length list
-  entry-fits = omega (arith, entry-words (shape n w k) j (1 + 2 * n + 2 * w) h (omega arith), L .room)
+module _ {z : Sizes} {k c : ℕ} {list address : List ℕ} (L : Looks z k c list address) (j : ℕ) (h : j < k) where
+  pub entry-fits : j * size (shape z 0) + size (shape z 0) ≤ length list
+  entry-fits = omega (arith, entry-words (shape z k) j (1 + 2 * z .n + 2 * z .w) h (omega arith), L .room)
 
-  pub entry-size : length (entryAt (shape n w 0) list j) ≡ 2 + 2 * n + 2 * w
-  entry-size = part-length list (j * (2 + 2 * n + 2 * w)) (j * (2 + 2 * n + 2 * w) + (2 + 2 * n + 2 * w)) (omega arith) entry-fits ∙ (omega arith)
+  pub entry-size : length (entryAt (shape z 0) list j) ≡ size (shape z 0)
+  entry-size = part-length list (j * size (shape z 0)) (j * size (shape z 0) + size (shape z 0)) (omega arith) entry-fits ∙ (omega arith)
 
-  pub entry-nodes : Nodes c (entryAt (shape n w 0) list j)
+  pub entry-nodes : Nodes c (entryAt (shape z 0) list j)
   entry-nodes =
       record {
         at = λ i m.
-            let b : i < 2 + 2 * n + 2 * w = omega (arith, entry-size) in
-            rw (entry-word (shape n w 0) list j i b) (L .entries (j * (2 + 2 * n + 2 * w) + i) (entry-words (shape n w k) j i h b));
+            let b : i < size (shape z 0) = omega (arith, entry-size) in
+            rw (entry-word (shape z 0) list j i b) (L .entries (j * size (shape z 0) + i) (entry-words (shape z k) j i h b));
       }
 
 -- a store that grew has the list's nodes and the address's still
-pub looks-more : {n w k c c′ : ℕ} {list address : List ℕ} → c ≤ c′ → Looks n w k c list address → Looks n w k c′ list address
+pub looks-more : {z : Sizes} {k c c′ : ℕ} {list address : List ℕ} → c ≤ c′ → Looks z k c list address → Looks z k c′ list address
 looks-more h L = record { few = L .few; wide = L .wide; many = L .many; room = L .room; entries = λ i m. omega (arith, L .entries i m); pairs = L .pairs; nodes = more-nodes h (L .nodes) }
 
 -- a word of ones

@@ -6,7 +6,8 @@ use lib.ListN.{length, getD}
 use Rattle.conditions.specs.declared.Store.{Store}
 use Rattle.conditions.specs.Build.{Outcome}
 use Rattle.conditions.specs.Contract.{Sound}
-use Rattle.model.specs.Record.{Record, size, hAt, lAt}
+use Rattle.semantics.specs.declared.Sizes.{Sizes}
+use Rattle.model.specs.Record.{Record, addressWords, size, hAt, lAt}
 use Rattle.addresses.specs.declared.AddressPair.{AddressPair}
 
 -- each word of a slice is a node
@@ -24,16 +25,16 @@ pub record WordDid (s : Store) (w t : List ℕ) (u : Store) (r : List ℕ) (x : 
 abbrev pub addressPair : List ℕ → ℕ → AddressPair
 addressPair a i = record { h = record { 0 = hAt a i }; l = record { 0 = lAt a i } }
 
--- a record as far as a look goes by it
-abbrev pub shape : ℕ → ℕ → ℕ → Record
-shape n w k = record { n = n; w = w; count = 0; entries = k; asserted = 0; checked = 0 }
+-- a record as far as a look goes by it: its sizes and k entries
+abbrev pub shape : Sizes → ℕ → Record
+shape z k = record { sizes = z; count = 0; entries = k; asserted = 0; checked = 0 }
 
--- a memory of n address bits and w data bits with k entries in a list whose words so far are nodes, and an address
-pub record Looks (n w k c : ℕ) (list address : List ℕ) : Type 0 where
-  pub few : n ≤ 8
-  pub wide : w ≤ 16
+-- a memory of these sizes with k entries in a list whose words so far are nodes, and an address
+pub record Looks (z : Sizes) (k c : ℕ) (list address : List ℕ) : Type 0 where
+  pub few : z .n ≤ 8
+  pub wide : z .w ≤ 16
   pub many : k ≤ 4096
-  pub room : k * size (shape n w k) ≤ length list
-  pub entries : (i : ℕ) → i < k * size (shape n w k) → getD list i 0 < c
-  pub pairs : length address ≡ 2 * n
+  pub room : k * size (shape z k) ≤ length list
+  pub entries : (i : ℕ) → i < k * size (shape z k) → getD list i 0 < c
+  pub pairs : length address ≡ addressWords (shape z k)
   pub nodes : Nodes c address

@@ -15,28 +15,28 @@ use Rattle.model.specs.Step.{begin, Finish, full, short, gives, closed, enter}
 use Rattle.model.proofs.FactLaws.{first-append, assert-facts}
 use Rattle.model.proofs.ProgramLaws.{assert-program, assert-entry-clears}
 use Rattle.access.specs.Contract.{Nodes, Looks}
-use Rattle.rows.specs.declared.Fields.{Fields}
-use Rattle.rows.specs.Contract.{recordOf, stateOf}
+use Rattle.model.specs.declared.Fields.{Fields}
+use Rattle.rows.specs.Contract.{stateOf}
 use Rattle.rows.proofs.CallLaws.{slice-nodes, facts-look}
 
 -- where the rows of a check pass, 7 is what is left
-pub assert-row-is : (r : Fields) (w l : List ℕ) (b : ℕ) (a d : List ℕ) {k : ℕ} → k ≡ firstRow (checkRows (recordOf r) w l b a d) → k ≡ 0
-    → firstRow (assertRows (recordOf r) w l b a d) ≡ cond (every (λ (i : ℕ). not (together w b (hAt a i) (lAt a i))) 0 (r .n)) 0 7
-assert-row-is r w l b a d e z = first-append (checkRows (recordOf r) w l b a d) ((7, every (λ (i : ℕ). not (together w b (hAt a i) (lAt a i))) 0 (r .n)) ∷ []) refl (sym e ∙ z)
+pub assert-row-is : (r : Fields) (w l : List ℕ) (b : ℕ) (a d : List ℕ) {k : ℕ} → k ≡ firstRow (checkRows r w l b a d) → k ≡ 0
+    → firstRow (assertRows r w l b a d) ≡ cond (every (λ (i : ℕ). not (together w b (hAt a i) (lAt a i))) 0 (r .sizes .n)) 0 7
+assert-row-is r w l b a d e z = first-append (checkRows r w l b a d) ((7, every (λ (i : ℕ). not (together w b (hAt a i) (lAt a i))) 0 (r .sizes .n)) ∷ []) refl (sym e ∙ z)
 
 -- what its rows leave; and of its programs, before the entry and for it, that clearing after them is clearing the words at entry
 pub record AssertHolds (r : Fields) (w l : List ℕ) (b : ℕ) (a d : List ℕ) : Type 0 where
-  pub few : r .n ≤ 8
-  pub wide : r .w ≤ 16
-  pub looks : Looks (r .n) (r .w) (r .entries) (r .count) l a
+  pub few : r .sizes .n ≤ 8
+  pub wide : r .sizes .w ≤ 16
+  pub looks : Looks (r .sizes) (r .entries) (r .count) l a
   pub word : Nodes (r .count) d
   pub control : b < r .count
   pub asserted : r .asserted < r .count
-  pub clears : clearOf (built.Assert (recordOf r) l b a d w (begin (recordOf r)) .words) (r .count) ≡ clearOf w (r .count)
-  pub entry-clears : (x : Outcome built.AssertBuilt) → x ≡ built.Assert (recordOf r) l b a d w (begin (recordOf r))
-      → clearOf (built.Write (r .n) b (x .answer .notB) a (x .words) (record { count = x .store .count; full = false }) .words) (r .count) ≡ clearOf w (r .count)
+  pub clears : clearOf (built.Assert r l b a d w (begin r) .words) (r .count) ≡ clearOf w (r .count)
+  pub entry-clears : (x : Outcome built.AssertBuilt) → x ≡ built.Assert r l b a d w (begin r)
+      → clearOf (built.Write (r .sizes .n) b (x .answer .notB) a (x .words) (record { count = x .store .count; full = false }) .words) (r .count) ≡ clearOf w (r .count)
 
-pub assert-holds : (r : Fields) (w l : List ℕ) (b : ℕ) (a d : List ℕ) {k : ℕ} → k ≡ firstRow (assertRows (recordOf r) w l b a d) → k ≡ 0 → AssertHolds r w l b a d
+pub assert-holds : (r : Fields) (w l : List ℕ) (b : ℕ) (a d : List ℕ) {k : ℕ} → k ≡ firstRow (assertRows r w l b a d) → k ≡ 0 → AssertHolds r w l b a d
 assert-holds r w l b a d e z =
     let s = stateOf r w l in
     let F = assert-facts s b a d (sym e ∙ z) .compared in
@@ -49,7 +49,7 @@ assert-holds r w l b a d e z =
       control = F .control .below;
       asserted = F .memory .listed .asserted .below;
       clears = builds-clear (assert-program σ s b a d F);
-      entry-clears = λ y q. ap (λ (y : Outcome built.AssertBuilt). clearOf (built.Write (r .n) b (y .answer .notB) a (y .words) (record { count = y .store .count; full = false }) .words) (r .count)) q ∙ assert-entry-clears σ s b a d F;
+      entry-clears = λ y q. ap (λ (y : Outcome built.AssertBuilt). clearOf (built.Write (r .sizes .n) b (y .answer .notB) a (y .words) (record { count = y .store .count; full = false }) .words) (r .count)) q ∙ assert-entry-clears σ s b a d F;
     }
 
 -- an assert's entry goes by the words at entry only where it clears them

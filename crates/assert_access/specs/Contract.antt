@@ -6,10 +6,11 @@ use Prim.Native.Nat.{ℕ, _*_, _<_, _≤_}
 use lib.ListN.{length}
 use Rattle.conditions.specs.Stores.{clearOf}
 use Rattle.conditions.specs.Contract.{Sound}
+use Rattle.model.specs.Record.{addressWords, cellWords}
 use Rattle.model.specs.Access as model
 use Rattle.model.specs.Step.{Answer, entered, kept, closed, enter}
 use Rattle.access.specs.Contract.{Nodes}
-use Rattle.rows.specs.declared.Fields.{Fields}
+use Rattle.model.specs.declared.Fields.{Fields}
 use Rattle.rows.specs.Contract.{stateOf, unlessRefused, Next}
 use Rattle.comparisons.specs.declared.AssertBuilt.{AssertBuilt}
 use Rattle.comparisons.specs.Contract.{builtOf}
@@ -20,17 +21,17 @@ assertAnswer k b = unlessRefused k (cond b kept entered)
 
 -- an assert that has built its conditions, before its entry
 pub record BeforeEntry (r : Fields) (w l table : List ℕ) (b : ℕ) (a d : List ℕ) (q : AssertBuilt) : Type 0 where
-  pub few : r .n ≤ 8
-  pub wide : r .w ≤ 16
+  pub few : r .sizes .n ≤ 8
+  pub wide : r .sizes .w ≤ 16
   pub sound : Sound w table (q .store)
   pub fits : q .store .full ≡ false
   pub more : r .count ≤ q .store .count
   pub control : b < r .count
   pub notB : q .«not_b» < q .store .count
-  pub pairs : length a ≡ 2 * r .n
+  pub pairs : length a ≡ addressWords r
   pub nodes : Nodes (r .count) a
-  pub word : length d ≡ 2 * r .w
-  pub clears : clearOf (model.Write (r .n) b (q .«not_b») a w (record { count = q .store .count; full = false }) .words) (r .count) ≡ clearOf w (r .count)
+  pub word : length d ≡ cellWords r
+  pub clears : clearOf (model.Write (r .sizes .n) b (q .«not_b») a w (record { count = q .store .count; full = false }) .words) (r .count) ≡ clearOf w (r .count)
 
 -- kept, entered, or refused by 8 or 9
 pub record AfterEntry (r : Fields) (w l : List ℕ) (b : ℕ) (a d : List ℕ) (q : AssertBuilt) (r′ : Fields) (w′ l′ : List ℕ) (x : Answer) (table : List ℕ) : Type 0 where

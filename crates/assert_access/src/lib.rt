@@ -3,16 +3,17 @@ ghost use mathlib.Core.Path.{_≡_};
 ghost use Prim.Native.Nat.{ℕ, _+_, _*_, _<_, _≤_};
 ghost use lib.ListN.{length};
 ghost use Rattle.conditions.specs.Contract.{Sound};
+ghost use Rattle.model.specs.Record.{addressWords, cellWords};
 ghost use Rattle.model.specs.Rows.{firstRow, assertRows};
 ghost use Rattle.model.specs.Step.{begin, assert};
 ghost use Rattle.model.specs.Frames.{Valid};
-ghost use Rattle.rows.specs.Contract.{recordOf, stateOf, Answers, AnswersOn};
+ghost use Rattle.rows.specs.Contract.{stateOf, Answers, AnswersOn};
 ghost use Rattle.assert_access.specs.Contract.{assertAnswer, BeforeEntry, AfterEntry};
 use access::ControlNode;
 use access::ControlPair;
 use comparisons::AssertBuilt;
 use conditions::Table;
-use rows::Fields;
+use model::Fields;
 
 // The fields after an assert, the number by which it is refused, or 0, and whether it is kept, where it is not refused.
 pub struct AssertDone {
@@ -30,14 +31,14 @@ fn assert_row(
     address: &[u32],
     data: &[u32],
 ) -> u32
-    requires { ⌜ Valid (stateOf r (now words) (now list)) × (length (now address) ≡ 2 * r .n) × (length (now «data») ≡ 2 * r .w) ⌝ }
-    ensures { λ x. ⌜ x ≡ firstRow (assertRows (recordOf r) (now (words .entry)) (now (list .entry)) (b .0) (now (address .entry)) (now («data» .entry))) ⌝ }
+    requires { ⌜ Valid (stateOf r (now words) (now list)) × (length (now address) ≡ addressWords r) × (length (now «data») ≡ cellWords r) ⌝ }
+    ensures { λ x. ⌜ x ≡ firstRow (assertRows r (now (words .entry)) (now (list .entry)) (b .0) (now (address .entry)) (now («data» .entry))) ⌝ }
 {
-    let k = r.check_row(words, list, b, address, data);
+    let k = rows::check_row(r, words, list, b, address, data);
     if k != 0 {
         return k;
     }
-    if rows::none_unknown(words, r.count, b, address, r.n as usize) {
+    if rows::none_unknown(words, r.count, b, address, r.sizes.n as usize) {
         0
     } else {
         7
@@ -68,7 +69,7 @@ fn enter(
             kept: true,
         };
     }
-    if rows::clear_where(words, r.count, !r.has_space(list)) {
+    if rows::clear_where(words, r.count, !rows::has_space(r, list, 1)) {
         return AssertDone {
             after: r,
             row: 8,
@@ -79,7 +80,7 @@ fn enter(
         h: b,
         l: ControlNode(q.not_b),
     };
-    let n = r.n as usize;
+    let n = r.sizes.n as usize;
     let m = access::write_marks(words, table, q.store, n, c, address);
     if rows::clear_where(words, r.count, m.store.full) {
         return AssertDone {
@@ -88,7 +89,7 @@ fn enter(
             kept: false,
         };
     }
-    r.append_entry(list, m, address, data);
+    rows::append_entry(r, list, m, address, data);
     after.count = m.store.count;
     after.entries = r.entries + 1;
     AssertDone {
@@ -108,7 +109,7 @@ pub fn assert_on(
     address: &[u32],
     data: &[u32],
 ) -> AssertDone
-    requires { ⌜ Valid (stateOf r (now words) (now list)) × Sound (now words) (now table) (begin (recordOf r)) × (length (now address) ≡ 2 * r .n) × (length (now «data») ≡ 2 * r .w) ⌝ }
+    requires { ⌜ Valid (stateOf r (now words) (now list)) × Sound (now words) (now table) (begin r) × (length (now address) ≡ addressWords r) × (length (now «data») ≡ cellWords r) ⌝ }
     ensures { λ x. ⌜ AnswersOn (assert (b .0) (now (address .entry)) (now («data» .entry))) (stateOf r (now (words .entry)) (now (list .entry))) (stateOf (x .after) (now (words .exit)) (now (list .exit))) (assertAnswer (x .row) (x .kept)) (now (table .exit)) ⌝ }
 {
     let k = assert_row(r, words, list, b, address, data);
@@ -119,9 +120,9 @@ pub fn assert_on(
             kept: false,
         };
     }
-    let s = r.begin();
+    let s = rows::begin(r);
     let mut word: [u32; 32] = [0; 32];
-    let w = r.w as usize;
+    let size = ranges::cell_words(r.sizes);
     let q = comparisons::assert_builds(
         r,
         words,
@@ -131,7 +132,7 @@ pub fn assert_on(
         b,
         address,
         data,
-        &mut word[..2 * w],
+        &mut word[..size],
     );
     if rows::clear_where(words, r.count, q.store.full) {
         return AssertDone {
@@ -154,7 +155,7 @@ pub fn assert(
 ) -> AssertDone
     ensures { λ x. ⌜ Answers (assert (b .0) (now (address .entry)) (now («data» .entry))) (stateOf r (now (words .entry)) (now (list .entry))) (stateOf (x .after) (now (words .exit)) (now (list .exit))) (assertAnswer (x .row) (x .kept)) ⌝ }
 {
-    let k = r.memory_row(words, list);
+    let k = rows::memory_row(r, words, list);
     if k != 0 {
         return AssertDone {
             after: r,
@@ -162,9 +163,9 @@ pub fn assert(
             kept: false,
         };
     }
-    let n = r.n as usize;
-    let w = r.w as usize;
-    if !((address.len() == 2 * n) & (data.len() == 2 * w)) {
+    let address_size = ranges::address_words(r.sizes);
+    let data_size = ranges::cell_words(r.sizes);
+    if !((address.len() == address_size) & (data.len() == data_size)) {
         return AssertDone {
             after: r,
             row: 4,

@@ -1,12 +1,13 @@
 // The calls of the model by their kind, on lent slices, for the program that runs stored calls.
 use stored::Item;
+use stored::RecordWords;
 use stored::length;
 
 // What a call returned, its out-word, which is 7 before, and the record.
 pub struct Done {
     pub row: u32,
     pub out: u32,
-    pub record: [u32; 6],
+    pub record: RecordWords,
 }
 
 fn joined(low: u32, high: u32) -> u64 {
@@ -14,7 +15,7 @@ fn joined(low: u32, high: u32) -> u64 {
 }
 
 // A call that is lent no list, Fresh the ports; b, c and d are n and w, a node and the halves of an assignment, a variable, or f, g and h.
-pub fn node_call(x: Item, r: [u32; 6], nodes: &mut [u32], ports: &mut [u32; 128]) -> Done {
+pub fn node_call(x: Item, r: RecordWords, nodes: &mut [u32], ports: &mut [u32; 128]) -> Done {
     let mut record = r;
     let mut out: u32 = 7;
     let kind = x.kind;
@@ -30,7 +31,7 @@ pub fn node_call(x: Item, r: [u32; 6], nodes: &mut [u32], ports: &mut [u32; 128]
 // A write, or a read at the port f.
 fn enabled(
     x: Item,
-    r: [u32; 6],
+    r: RecordWords,
     nodes: &mut [u32],
     list: &mut [u32],
     ports: &mut [u32; 128],
@@ -51,7 +52,7 @@ fn enabled(
 // An assert or a check.
 fn conditional(
     kind: u32,
-    r: [u32; 6],
+    r: RecordWords,
     nodes: &mut [u32],
     list: &mut [u32],
     b: u32,
@@ -71,7 +72,7 @@ fn conditional(
 // An access whose enable, address and data have the lengths c, d and e; c is b of an assert or a check.
 pub fn access(
     x: Item,
-    r: [u32; 6],
+    r: RecordWords,
     nodes: &mut [u32],
     list: &mut [u32],
     ports: &mut [u32; 128],

@@ -8,11 +8,12 @@ use memory::AssertAnswer;
 use memory::CheckAnswer;
 use memory::ReadAnswer;
 use memory::WriteAnswer;
+use record_words::RecordWords;
 
 // Write: the place of the entry, or 4294967295 for an idle write.
 #[no_mangle]
 pub extern "C" fn md_write(
-    record: &mut [u32; 6],
+    record: &mut RecordWords,
     nodes: &mut [u32],
     list: &mut [u32],
     enable: &[u32],
@@ -41,7 +42,7 @@ pub extern "C" fn md_write(
 // Check.
 #[no_mangle]
 pub extern "C" fn md_check(
-    record: &mut [u32; 6],
+    record: &mut RecordWords,
     nodes: &mut [u32],
     list: &[u32],
     b: u32,
@@ -62,7 +63,7 @@ pub extern "C" fn md_check(
 // Assert: entered is 1, or 0 for kept.
 #[no_mangle]
 pub extern "C" fn md_assert(
-    record: &mut [u32; 6],
+    record: &mut RecordWords,
     nodes: &mut [u32],
     list: &mut [u32],
     b: u32,
@@ -91,7 +92,7 @@ pub extern "C" fn md_assert(
 // Read, at a port.
 #[no_mangle]
 pub extern "C" fn md_read(
-    record: &mut [u32; 6],
+    record: &mut RecordWords,
     nodes: &mut [u32],
     list: &[u32],
     ports: &mut [u32; 128],

@@ -3,7 +3,6 @@ use mathlib.Core.Path.{_≡_, sym, ap, _∙_}
 use mathlib.Core.List.{List}
 use Prim.Native.Nat.{ℕ}
 use Rattle.memory.specs.declared.Record.{Record}
-use Rattle.memory.specs.Contract.{recordOf}
 use Rattle.casefile.specs.declared.CaseAnswer.{CaseAnswer}
 use Rattle.casefile.specs.declared.CaseAnswer.the-variants as answer
 use Rattle.cases.specs.Case.{Case, caseOf}
@@ -20,6 +19,6 @@ case-is {w′ = w′} {l′ = l′} {b′ = b′} file w l b r e p =
 pub case-accepted : {x : CaseAnswer} {n : ℕ} {m : Record} {w′ l′ b′ r′ : List ℕ} (file w l b r : List ℕ)
     → x ≡ answer.Done n m
     → caseAs x w′ l′ b′ ≡ caseOf file w l b
-    → r′ ≡ wordsOf (recordOf m)
+    → r′ ≡ wordsOf (m .fields)
     → leftCase 0 w′ l′ b′ r′ n ≡ cased file w l b r
 case-accepted {n = n} {w′ = w′} {l′ = l′} {b′ = b′} file w l b r e p o = ap (λ (z : List ℕ). leftCase 0 w′ l′ b′ z n) o ∙ case-is file w l b r e p

@@ -4,11 +4,12 @@ ghost use Rattle.formula_calls.specs.Call.{asserting, checking};
 ghost use Rattle.formula_words.specs.Contract.{leftFormula, formulaCalled};
 ghost use Rattle.capi_cases.specs.Contract.{leftCase, cased};
 use casefile::CaseAnswer;
+use record_words::RecordWords;
 
 // Asserts by a written formula.
 #[no_mangle]
 pub extern "C" fn md_assert_formula(
-    record: &mut [u32; 6],
+    record: &mut RecordWords,
     nodes: &mut [u32],
     list: &mut [u32],
     text: &[u8],
@@ -36,7 +37,7 @@ pub extern "C" fn md_assert_formula(
 // Checks by one.
 #[no_mangle]
 pub extern "C" fn md_check_formula(
-    record: &mut [u32; 6],
+    record: &mut RecordWords,
     nodes: &mut [u32],
     list: &[u32],
     text: &[u8],
@@ -68,7 +69,7 @@ pub extern "C" fn md_case(
     nodes: &mut [u32],
     list: &mut [u32],
     text: &mut [u8],
-    record: &mut [u32; 6],
+    record: &mut RecordWords,
     count: &mut u64,
 ) -> u32
     ensures { λ r. ⌜ leftCase r (now (nodes .exit)) (now (list .exit)) (now (text .exit)) (now («record» .exit)) (now (count .exit)) ≡ cased (now (case .entry)) (now (nodes .entry)) (now (list .entry)) (now (text .entry)) (now («record» .entry)) ⌝ }

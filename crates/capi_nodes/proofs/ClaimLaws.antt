@@ -29,7 +29,7 @@ use Rattle.capi_nodes.specs.Claims.{FreshRefused, TextRefused, bytesOf, 
 pub fresh-refused : FreshRefused
 unfolding FreshRefused freshed FreshLeaves
 fresh-refused n w r ws ps k six e =
-    ap freshBy (fresh-leaves (recordIn r) n w ws ps .0 k e) ∙ ap (λ (z : List ℕ). (suc k, z, ws, ps)) (words-back r six)
+    ap freshBy (fresh-leaves (recordIn r) (record { n = n; w = w }) ws ps .0 k e) ∙ ap (λ (z : List ℕ). (suc k, z, ws, ps)) (words-back r six)
 
 -- the rows of what is asked of a node: none is 13
 row-number : (a b d : Bool) → (firstRow ((1, a) ∷ (2, b) ∷ (5, d) ∷ []) ≡ 13) → ⊥

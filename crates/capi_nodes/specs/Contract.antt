@@ -24,7 +24,7 @@ abbrev pub freshBy : Fresh → ℕ × List ℕ × List ℕ × List ℕ
 freshBy x = (x .answer, wordsOf (x .rec), x .words, x .ports)
 
 unfoldable pub freshed : ℕ → ℕ → List ℕ → List ℕ → List ℕ → ℕ × List ℕ × List ℕ × List ℕ
-freshed n w r ws ps = freshBy (fresh (recordIn r) n w ws ps)
+freshed n w r ws ps = freshBy (fresh (recordIn r) (record { n = n; w = w }) ws ps)
 
 -- what is asked of a node is refused as evaluate is
 abbrev pub rowOf : ℕ → List ℕ → List ℕ → ℕ

@@ -1,4 +1,4 @@
-// The calls for C that are lent no list, and what is asked of a node: the record is six words, and every function returns 0 for accepted or the row's number.
+// The calls for C that are lent no list, and what is asked of a node: the record is its words, and every function returns 0 for accepted or the row's number.
 ghost use mathlib.Core.Path.{_≡_};
 ghost use mathlib.Core.List.{[]};
 ghost use Rattle.model.specs.Step.{ite, nodeCall};
@@ -8,12 +8,14 @@ ghost use Rattle.capi_nodes.specs.Contract.{evaluated, freshed, leftText
 use memory::FreshAnswer;
 use memory::NodeAnswer;
 use memory::ValueAnswer;
+use record_words::RecordWords;
+use semantics::Sizes;
 use text::Text;
 
 // Fresh.
 #[no_mangle]
 pub extern "C" fn md_fresh(
-    record: &mut [u32; 6],
+    record: &mut RecordWords,
     n: u32,
     w: u32,
     nodes: &mut [u32],
@@ -21,7 +23,8 @@ pub extern "C" fn md_fresh(
 ) -> u32
     ensures { λ r. ⌜ (r, now («record» .exit), now (nodes .exit), now (ports .exit)) ≡ freshed n w (now («record» .entry)) (now (nodes .entry)) (now (ports .entry)) ⌝ }
 {
-    let x = record_words::record_of(record).fresh(nodes, ports, n, w);
+    let z = Sizes { n, w };
+    let x = record_words::record_of(record).fresh(nodes, ports, z);
     record_words::put_record(record, x.after);
     let answer = x.answer;
     match answer {
@@ -33,7 +36,7 @@ pub extern "C" fn md_fresh(
 // The node of a variable.
 #[no_mangle]
 pub extern "C" fn md_variable(
-    record: &mut [u32; 6],
+    record: &mut RecordWords,
     nodes: &mut [u32],
     variable: u32,
     node: &mut u32,
@@ -55,7 +58,7 @@ pub extern "C" fn md_variable(
 // The node of Ite(f, g, h).
 #[no_mangle]
 pub extern "C" fn md_ite(
-    record: &mut [u32; 6],
+    record: &mut RecordWords,
     nodes: &mut [u32],
     f: u32,
     g: u32,
@@ -79,7 +82,7 @@ pub extern "C" fn md_ite(
 // The value of a node under a 64-bit assignment: 0 or 1.
 #[no_mangle]
 pub extern "C" fn md_evaluate(
-    record: &[u32; 6],
+    record: &RecordWords,
     nodes: &[u32],
     node: u32,
     assignment: u64,
@@ -101,7 +104,7 @@ pub extern "C" fn md_evaluate(
 // A condition's text, into the text bytes from the first on: a text that does not fit leaves zeros.
 #[no_mangle]
 pub extern "C" fn md_text(
-    record: &[u32; 6],
+    record: &RecordWords,
     nodes: &[u32],
     node: u32,
     text: &mut [u8],
@@ -109,7 +112,8 @@ pub extern "C" fn md_text(
 ) -> u32
     ensures { λ r. ⌜ leftText r (now (text .exit)) (now (length .exit)) ≡ texted node (now («record» .entry)) (now (nodes .entry)) (now (text .entry)) (now (length .entry)) ⌝ }
 {
-    let fields = record_words::record_of(record).fields();
+    let r = record_words::record_of(record);
+    let fields = r.fields;
     let row = node_calls::evaluate_row(fields, nodes, node);
     if row != 0 {
         return row;
@@ -126,14 +130,15 @@ pub extern "C" fn md_text(
 // An assignment under which a node holds; of node 0, under which none does, it is 0.
 #[no_mangle]
 pub extern "C" fn md_witness(
-    record: &[u32; 6],
+    record: &RecordWords,
     nodes: &[u32],
     node: u32,
     assignment: &mut u64,
 ) -> u32
     ensures { λ r. ⌜ (r, now (assignment .exit)) ≡ witnessed node (now («record» .entry)) (now (nodes .entry)) (now (assignment .entry)) ⌝ }
 {
-    let fields = record_words::record_of(record).fields();
+    let r = record_words::record_of(record);
+    let fields = r.fields;
     let k = node_calls::evaluate_row(fields, nodes, node);
     if k != 0 {
         return k;

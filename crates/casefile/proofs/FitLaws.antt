@@ -5,7 +5,6 @@ use mathlib.Core.List.{List}
 use Prim.Native.Nat.{ℕ, _≤_}
 use lib.ListN.{length}
 use Rattle.memory.specs.declared.Record as memory
-use Rattle.memory.specs.Contract.{recordOf}
 use Rattle.text.specs.declared.Text.{Text}
 use Rattle.text.specs.Text.{out, growing, appended}
 use Rattle.lines.specs.Lines.{refusedLine}
@@ -19,7 +18,7 @@ use Rattle.casefile.specs.Contract.{answered, caseAs, outputAs}
 -- the text length that is answered lies in the text buffer
 pub done-fits : (file words list text : List ℕ) (w l b : List ℕ) {r : CaseAnswer} {k : ℕ} {m : memory.Record} → r ≡ answer.Done k m → caseAs r w l b ≡ caseOf file words list text → k ≤ length text
 unfolding CaseText
-done-fits file words list text w l b {k = k} {m = m} e f = case-text file words list text k (recordOf m) (sym (ap (λ (x : Case). x .answer) f) ∙ ap answered e) .fits
+done-fits file words list text w l b {k = k} {m = m} e f = case-text file words list text k (m .fields) (sym (ap (λ (x : Case). x .answer) f) ∙ ap answered e) .fits
 
 -- accepted, and refused: what is to be printed
 module _ (file words list text : List ℕ) (w l b : List ℕ) {r : CaseAnswer} (f : caseAs r w l b ≡ caseOf file words list text) where

@@ -36,7 +36,7 @@ module _ (file : List ℕ) (k : ℕ) (c : Run) (w l ps b : List ℕ) where
   pub bytes-left : c .at < length file → stopped 12 k ≡ last file k (runningOf c w l b ps)
   bytes-left h = sym (last-left file k (runningOf c w l b ps) h)
 
-  module _ (h : length file ≤ c .at) {b′ : List ℕ} {t : Text} (p : out b′ t ≡ appended (endLine (c .memory .entries)) (out b (c .text))) where
+  module _ (h : length file ≤ c .at) {b′ : List ℕ} {t : Text} (p : out b′ t ≡ appended (endLine (c .memory .fields .entries)) (out b (c .text))) where
     last-is : last file k (runningOf c w l b ps) ≡ lastPrinted (stateOf (c .memory) w l ps) k (out b′ t)
     last-is = last-printed file k (runningOf c w l b ps) h ∙ ap (lastPrinted (stateOf (c .memory) w l ps) k) (sym p)
 
@@ -104,10 +104,10 @@ module _ (file words list text ws : List ℕ) (r : Loaded) (f : (ws, sectionsOf 
 
 -- a case with which nothing is done yet
 pub first-ready : (file words list ws : List ℕ) (r : Loaded) {n w count m at : ℕ} → r ≡ loaded.Ready n w count m at → (ws, sectionsOf r) ≡ sections file words
-    → let m : Record = record { n = n; w = w; count = count; entries = 0; asserted = 1; checked = 1 } in Ready m ws list (replicate 32768 0) × PortsValid (stateOf m ws list freshPorts)
+    → let m : Record = record { fields = record { sizes = record { n = n; w = w }; count = count; entries = 0; asserted = 1; checked = 1 } } in Ready m ws list (replicate 32768 0) × PortsValid (stateOf m ws list freshPorts)
 first-ready file words list ws r {n} {w} {count} e f =
     let S = sections-ready file words e f in
-    (record { valid = valid-plain (record { n = n; w = w; count = count; entries = 0; asserted = 1; checked = 1 }) ws list freshPorts (sections-valid S list); sound = zeros-sound _ 32768 (S .standard) }, sections-ports-valid S list)
+    (record { valid = valid-plain (record { fields = record { sizes = record { n = n; w = w }; count = count; entries = 0; asserted = 1; checked = 1 } }) ws list freshPorts (sections-valid S list); sound = zeros-sound _ 32768 (S .standard) }, sections-ports-valid S list)
 
 -- accepted, and refused
 module _ (file words list text w l b : List ℕ) (r : CaseAnswer) (f : EndsAs r w l b (whole file words list text)) where

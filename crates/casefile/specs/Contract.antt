@@ -5,7 +5,7 @@ use mathlib.Core.List.{List}
 use Prim.Native.Nat.{ℕ}
 use Rattle.text.specs.declared.Text.{Text}
 use Rattle.text.specs.Text.{out}
-use Rattle.memory.specs.Contract.{recordOf, stateOf}
+use Rattle.memory.specs.Contract.{stateOf}
 use Rattle.cases.specs.Case.{Ended, ended, stopped, Answered, accepts, refuses, Case, last, Output}
 use Rattle.entering.specs.declared.Run.{Run}
 use Rattle.entering.specs.Contract.{runningOf}
@@ -14,7 +14,7 @@ use Rattle.casefile.specs.declared.CaseAnswer.the-variants as answer
 
 -- 01's number and values for each answer
 abbrev pub answered : CaseAnswer → Answered
-answered (answer.Done length m) = accepts length (recordOf m)
+answered (answer.Done length m) = accepts length (m .fields)
 answered (answer.Refused number after) = refuses number after
 
 -- the end of a case, with node words, list, text bytes and ports; the text is not full

@@ -10,7 +10,9 @@ use conditions::Table;
 use entering::Run;
 use entering::Step;
 use memory::Record;
+use model::Fields;
 use reading::Loaded;
+use semantics::Sizes;
 use text::Text;
 
 // The last line, unless bytes are left.
@@ -21,7 +23,7 @@ fn finish(file: &[u8], buf: &mut [u8], c: Run, after: u32) -> CaseAnswer
     if c.at < file.len() {
         return CaseAnswer::Refused { number: 12, after };
     }
-    let t = printing::put_end(buf, c.text, memory.entries);
+    let t = printing::put_end(buf, c.text, memory.fields.entries);
     if t.full {
         CaseAnswer::Refused { number: 13, after }
     } else {
@@ -78,12 +80,13 @@ pub fn whole(file: &[u8], words: &mut [u32], list: &mut [u32], buf: &mut [u8]) -
         } => {
             let c = Run {
                 memory: Record {
-                    n,
-                    w,
-                    count,
-                    entries: 0,
-                    asserted: 1,
-                    checked: 1,
+                    fields: Fields {
+                        sizes: Sizes { n, w },
+                        count,
+                        entries: 0,
+                        asserted: 1,
+                        checked: 1,
+                    },
                 },
                 text: Text { at: 0, full: false },
                 at,

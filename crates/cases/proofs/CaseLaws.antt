@@ -13,11 +13,12 @@ use Rattle.text.proofs.TextLaws.{appended-append, appended-fits, appended-is-fu
 use Rattle.lines.specs.Lines.{endLine}
 use Rattle.conditions.specs.Value.{value}
 use Rattle.conditions.specs.Assignment.{bitAt}
+use Rattle.semantics.specs.declared.Sizes.{Sizes}
 use Rattle.model.specs.Record.{Record, freshPorts}
 use Rattle.model.specs.Step.{State, Call, accepted, isRefused, step, run, AllAccepted}
-use Rattle.model.specs.Frames.{SuccessLeaves}
+use Rattle.model.specs.Frames.{SizesStay}
 use Rattle.model.specs.Claims.{Begins, Demand3}
-use Rattle.model.proofs.FrameLaws.{success-leaves}
+use Rattle.model.proofs.FrameLaws.{sizes-stay}
 use Rattle.model.proofs.Demand3.{demand3}
 use Rattle.format.specs.Sections.{Sections, ready, firstRecord, sections, accessesIn, firstAt}
 use Rattle.format.specs.Sections as sections
@@ -37,7 +38,7 @@ record Comes (file : List ℕ) (n w m : ℕ) (c : Running) (s : State) (o : Out)
   text : o ≡ appended (linesOf (callsFrom file n w (c .at) m) (c .state)) (c .text)
   free : o .text .full ≡ false
 
-last-ended : (file : List ℕ) (k : ℕ) (c : Running) (s : State) (o : Out) → c .at ≤ length file → last file k c ≡ ended s o → Comes file (c .state .rec .n) (c .state .rec .w) 0 c s o
+last-ended : (file : List ℕ) (k : ℕ) (c : Running) (s : State) (o : Out) → c .at ≤ length file → last file k c ≡ ended s o → Comes file (c .state .rec .sizes .n) (c .state .rec .sizes .w) 0 c s o
 unfolding callsFrom endFrom run
 last-ended file k c s o h e = go (ltb (c .at) (length file)) refl
   where
@@ -48,7 +49,7 @@ last-ended file k c s o h e = go (ltb (c .at) (length file)) refl
     full true q e = let z : _≡_ {A = ℕ} 0 1 = cc in absurd (omega arith)
     full false q e = (cc, cc, q)
 
-    go : (f : Bool) → ltb (c .at) (length file) ≡ f → Comes file (c .state .rec .n) (c .state .rec .w) 0 c s o
+    go : (f : Bool) → ltb (c .at) (length file) ≡ f → Comes file (c .state .rec .sizes .n) (c .state .rec .sizes .w) 0 c s o
     go true q =
         let u : stopped 12 k ≡ ended s o = sym (last-left file k c (ltb-true (c .at) (length file) q)) ∙ e in
         let z : _≡_ {A = ℕ} 0 1 = cc in
@@ -59,11 +60,11 @@ last-ended file k c s o h e = go (ltb (c .at) (length file)) refl
         record { stand = tt; ends = omega arith; accepted = tt; state = F .0; text = F .1; free = ap (λ (x : Out). x .text .full) (F .1) ∙ F .2 }
 
 -- n and w stay
-pub same-sizes : (x : Call) (s : State) → isRefused (step x s .answer) ≡ false → (step x s .after .rec .n ≡ s .rec .n) × (step x s .after .rec .w ≡ s .rec .w)
-unfolding SuccessLeaves
-same-sizes x s e = let E = success-leaves x s e in (E .n, E .w)
+pub same-sizes : (x : Call) (s : State) → isRefused (step x s .answer) ≡ false → (step x s .after .rec .sizes .n ≡ s .rec .sizes .n) × (step x s .after .rec .sizes .w ≡ s .rec .sizes .w)
+unfolding SizesStay
+same-sizes x s e = let E = sizes-stay x s in (ap (λ (z : Sizes). z .n) (E .sizes), ap (λ (z : Sizes). z .w) (E .sizes))
 
-rest-ended : (file : List ℕ) (m k : ℕ) (c : Running) (s : State) (o : Out) → c .at ≤ length file → rest file m k c ≡ ended s o → Comes file (c .state .rec .n) (c .state .rec .w) m c s o
+rest-ended : (file : List ℕ) (m k : ℕ) (c : Running) (s : State) (o : Out) → c .at ≤ length file → rest file m k c ≡ ended s o → Comes file (c .state .rec .sizes .n) (c .state .rec .sizes .w) m c s o
 unfolding rest callsFrom endFrom run
 rest-ended file zero k c s o h e = last-ended file k c s o h e
 rest-ended file (suc m) k c s o h e = go (λ d. rest-ended file m (suc k) d s o) (way file c)
@@ -71,17 +72,17 @@ rest-ended file (suc m) k c s o h e = go (λ d. rest-ended file m (suc k) d s o)
     from : {x : Next} → one file c ≡ x → after x k (rest file m (suc k)) ≡ ended s o
     from q = ap (λ (x : Next). after x k (rest file m (suc k))) (sym q) ∙ e
 
-    no : (a b : ℕ) → stopped a b ≡ ended s o → Comes file (c .state .rec .n) (c .state .rec .w) (suc m) c s o
+    no : (a b : ℕ) → stopped a b ≡ ended s o → Comes file (c .state .rec .sizes .n) (c .state .rec .sizes .w) (suc m) c s o
     no a b u = let z : _≡_ {A = ℕ} 0 1 = cc in absurd (omega arith)
 
-    go : ((d : Running) → d .at ≤ length file → rest file m (suc k) d ≡ ended s o → Comes file (d .state .rec .n) (d .state .rec .w) m d s o) → Way file c → Comes file (c .state .rec .n) (c .state .rec .w) (suc m) c s o
+    go : ((d : Running) → d .at ≤ length file → rest file m (suc k) d ≡ ended s o → Comes file (d .state .rec .sizes .n) (d .state .rec .sizes .w) m d s o) → Way file c → Comes file (c .state .rec .sizes .n) (c .state .rec .sizes .w) (suc m) c s o
     go again (goesOn q t a f) =
-        let n = c .state .rec .n in
-        let w = c .state .rec .w in
+        let n = c .state .rec .sizes .n in
+        let w = c .state .rec .sizes .w in
         let d = afterOne file c in
         let Z = same-sizes (callHere file c) (c .state) a in
         let C : Comes file n w m d s o =
-        subst (λ (x : ℕ). Comes file n x m d s o) (Z .1) (subst (λ (x : ℕ). Comes file x (d .state .rec .w) m d s o) (Z .0) (again d (access-lies file (c .at) n w (sym t) .inside) (from q))) in
+        subst (λ (x : ℕ). Comes file n x m d s o) (Z .1) (subst (λ (x : ℕ). Comes file x (d .state .rec .sizes .w) m d s o) (Z .0) (again d (access-lies file (c .at) n w (sym t) .inside) (from q))) in
         record { stand = (t, C .stand); ends = C .ends; accepted = (a, C .accepted); state = C .state; text = C .text ∙ sym (appended-append _ (linesOf (callsFrom file n w (d .at) m) (d .state)) (c .text)); free = C .free }
     go again (isOver q t a f) = no _ _ (from q)
     go again (isRefusedBy x q t a) = no _ _ (from q)
@@ -104,7 +105,7 @@ begun file words list text {n} {w} {count} {m} {at} q =
     let ws = sections file words .0 in
     let R = sections-read file words {ws = ws} {n = n} {w = w} {count = count} {accesses = m} {at = at} (ap (λ (y : Sections). (ws, y)) (sym q)) in
     let start-is : record { state = record { rec = firstRecord n w count; words = ws; list = list; ports = freshPorts }; at = at; text = growing text 0 } ≡ start file words list text =
-    λ i. record { state = record { rec = record { n = R .n-is i; w = R .w-is i; count = R .count-is i; entries = 0; asserted = 1; checked = 1 }; words = R .words-are i; list = list; ports = freshPorts }; at = R .at-is i; text = growing text 0 } in
+    λ i. record { state = record { rec = record { sizes = record { n = R .n-is i; w = R .w-is i }; count = R .count-is i; entries = 0; asserted = 1; checked = 1 }; words = R .words-are i; list = list; ports = freshPorts }; at = R .at-is i; text = growing text 0 } in
     ap (λ (y : Running). rest file m 0 y) start-is ∙ ap (λ (i : ℕ). rest file i 0 (start file words list text)) (R .accesses-is)
 
 whole-began : (file words list text : List ℕ) (s : State) (o : Out) → whole file words list text ≡ ended s o → Began file words list text s o
@@ -116,7 +117,7 @@ whole-began file words list text s o e = go (sections file words .1) refl e
         let ws = sections file words .0 in
         let R = sections-read file words {ws = ws} {n = n} {w = w} {count = count} {accesses = m} {at = at} (ap (λ (y : Sections). (ws, y)) (sym q)) in
         let state-is : record { rec = firstRecord n w count; words = ws; list = list; ports = freshPorts } ≡ stateIn file words list =
-        λ i. record { rec = record { n = R .n-is i; w = R .w-is i; count = R .count-is i; entries = 0; asserted = 1; checked = 1 }; words = R .words-are i; list = list; ports = freshPorts } in
+        λ i. record { rec = record { sizes = record { n = R .n-is i; w = R .w-is i }; count = R .count-is i; entries = 0; asserted = 1; checked = 1 }; words = R .words-are i; list = list; ports = freshPorts } in
         record {
           read = q ∙ (λ i. ready (R .n-is i) (R .w-is i) (R .count-is i) (R .accesses-is i) (R .at-is i));
           begins = subst Begins state-is (sections-begin R list);
@@ -196,5 +197,5 @@ case-exactly file words list text k r e a small =
     let same = case-condition file words list text k r P (bitAt a) in
     record {
       calls = X;
-      checking = (λ z. X .checking .0 (subst T same z), λ z. subst T (sym same) (X .checking .1 z));
+      checking = (λ z. X .admitted .checking (subst T same z), λ z. subst T (sym same) (X .exact .checking z));
     }

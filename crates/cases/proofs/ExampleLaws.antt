@@ -93,10 +93,10 @@ asserting-lines =
 
 abbrev pub ExamplesPrint : Type 0
 ExamplesPrint =
-    Prints example (record { n = 1; w = 1; count = 10; entries = 1; asserted = 1; checked = 3 }) example-lines
-    × Prints held (record { n = 1; w = 1; count = 4; entries = 1; asserted = 1; checked = 1 }) held-lines
-    × Prints idling (record { n = 1; w = 1; count = 2; entries = 1; asserted = 1; checked = 1 }) idling-lines
-    × Prints asserting (record { n = 1; w = 1; count = 9; entries = 2; asserted = 3; checked = 2 }) asserting-lines
+    Prints example (record { sizes = record { n = 1; w = 1 }; count = 10; entries = 1; asserted = 1; checked = 3 }) example-lines
+    × Prints held (record { sizes = record { n = 1; w = 1 }; count = 4; entries = 1; asserted = 1; checked = 1 }) held-lines
+    × Prints idling (record { sizes = record { n = 1; w = 1 }; count = 2; entries = 1; asserted = 1; checked = 1 }) idling-lines
+    × Prints asserting (record { sizes = record { n = 1; w = 1 }; count = 9; entries = 2; asserted = 3; checked = 2 }) asserting-lines
 
 pub examples-print : ExamplesPrint
 unfolding

@@ -75,7 +75,7 @@ passes-not k (t ∷ ts) P e = go (passes-not k ts (P .1)) (t .1) refl e
     go again false q e = false≢true (sym q ∙ P .0 e)
 
 -- an access of a file has control, address and data of the right lengths
-module _ (file : List ℕ) (at n w : ℕ) (s : State) (en : s .rec .n ≡ n) (ew : s .rec .w ≡ w) where
+module _ (file : List ℕ) (at n w : ℕ) (s : State) (en : s .rec .sizes .n ≡ n) (ew : s .rec .sizes .w ≡ w) where
   abbrev called : Kind → Call
   called k = callOf k w (valuesAt file at (fieldsOf k n w))
 
@@ -85,10 +85,10 @@ module _ (file : List ℕ) (at n w : ℕ) (s : State) (en : s .rec .n ≡ n) (ew
   control : (i : ℕ) → length (numbersAt file i 2) ≡ 2
   control i = numbers-length file i 2
 
-  address : (i : ℕ) → length (numbersAt file i (2 * n)) ≡ 2 * s .rec .n
+  address : (i : ℕ) → length (numbersAt file i (2 * n)) ≡ 2 * s .rec .sizes .n
   address i = numbers-length file i (2 * n) ∙ ap (λ (x : ℕ). 2 * x) (sym en)
 
-  word : (i : ℕ) → length (numbersAt file i (2 * w)) ≡ 2 * s .rec .w
+  word : (i : ℕ) → length (numbersAt file i (2 * w)) ≡ 2 * s .rec .sizes .w
   word i = numbers-length file i (2 * w) ∙ ap (λ (x : ℕ). 2 * x) (sym ew)
 
   -- a row of another number
@@ -117,7 +117,7 @@ module _ (file : List ℕ) (at n w : ℕ) (s : State) (en : s .rec .n ≡ n) (ew
       go (inr q) = none (finish (called k) s) (and-both (eqb (refusal (called k) s) 0) _ q .1)
 
 -- n and w stay
-run-sizes : (cs : List Call) (s : State) → AllAccepted cs s → (run cs s .rec .n ≡ s .rec .n) × (run cs s .rec .w ≡ s .rec .w)
+run-sizes : (cs : List Call) (s : State) → AllAccepted cs s → (run cs s .rec .sizes .n ≡ s .rec .sizes .n) × (run cs s .rec .sizes .w ≡ s .rec .sizes .w)
 unfolding run
 run-sizes [] s A = (refl, refl)
 run-sizes (c ∷ cs) s A =

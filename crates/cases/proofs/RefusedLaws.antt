@@ -47,7 +47,7 @@ stops-none file n w m c r f y = record { few = omega arith; stand = tt; accepted
 
 -- after one more
 module _ (file : List ℕ) (m : ℕ) (c : Running) (r j : ℕ) where
-  why-more : Why file (c .state .rec .n) (c .state .rec .w) m (afterOne file c) r j → Why file (c .state .rec .n) (c .state .rec .w) (suc m) c r (suc j)
+  why-more : Why file (c .state .rec .sizes .n) (c .state .rec .sizes .w) m (afterOne file c) r j → Why file (c .state .rec .sizes .n) (c .state .rec .sizes .w) (suc m) c r (suc j)
   unfolding callsFrom endFrom run
   why-more (whyMissing h e) = whyMissing (omega arith) e
   why-more (whyRefused h s e) = whyRefused (omega arith) s e
@@ -55,7 +55,7 @@ module _ (file : List ℕ) (m : ℕ) (c : Running) (r j : ℕ) where
   why-more (whyLeft h l e) = whyLeft (omega arith) l e
   why-more (whyEnd h l f e) = whyEnd (omega arith) l (ap (λ (o : Out). o .text .full) (appended-append _ _ (c .text)) ∙ f) e
 
-  stops-more : StandsHere file c → isRefused (answerHere file c) ≡ false → Stops file (c .state .rec .n) (c .state .rec .w) m (afterOne file c) r j → Stops file (c .state .rec .n) (c .state .rec .w) (suc m) c r (suc j)
+  stops-more : StandsHere file c → isRefused (answerHere file c) ≡ false → Stops file (c .state .rec .sizes .n) (c .state .rec .sizes .w) m (afterOne file c) r j → Stops file (c .state .rec .sizes .n) (c .state .rec .sizes .w) (suc m) c r (suc j)
   unfolding callsFrom endFrom run
   stops-more s a S =
       record {
@@ -72,18 +72,18 @@ record Stopped (file : List ℕ) (n w m i : ℕ) (c : Running) (r k : ℕ) : Typ
   is : k ≡ i + count
   stops : Stops file n w m c r count
 
-last-stopped : (file : List ℕ) (i : ℕ) (c : Running) (r k : ℕ) → last file i c ≡ stopped r k → (k ≡ i) × Why file (c .state .rec .n) (c .state .rec .w) 0 c r 0
+last-stopped : (file : List ℕ) (i : ℕ) (c : Running) (r k : ℕ) → last file i c ≡ stopped r k → (k ≡ i) × Why file (c .state .rec .sizes .n) (c .state .rec .sizes .w) 0 c r 0
 unfolding callsFrom endFrom
 last-stopped file i c r k e = go (ltb (c .at) (length file)) refl
   where
     end : Out
     end = appended (endLine (c .state .rec .entries)) (c .text)
 
-    full : (f : Bool) → end .text .full ≡ f → length file ≤ c .at → cond f (stopped 13 i) (ended (c .state) end) ≡ stopped r k → (k ≡ i) × Why file (c .state .rec .n) (c .state .rec .w) 0 c r 0
+    full : (f : Bool) → end .text .full ≡ f → length file ≤ c .at → cond f (stopped 13 i) (ended (c .state) end) ≡ stopped r k → (k ≡ i) × Why file (c .state .rec .sizes .n) (c .state .rec .sizes .w) 0 c r 0
     full true q h e = (cc, whyEnd refl h q cc)
     full false q h e = let z : _≡_ {A = ℕ} 0 1 = cc in absurd (omega arith)
 
-    go : (f : Bool) → ltb (c .at) (length file) ≡ f → (k ≡ i) × Why file (c .state .rec .n) (c .state .rec .w) 0 c r 0
+    go : (f : Bool) → ltb (c .at) (length file) ≡ f → (k ≡ i) × Why file (c .state .rec .sizes .n) (c .state .rec .sizes .w) 0 c r 0
     go true q =
         let h : c .at < length file = ltb-true (c .at) (length file) q in
         let u : stopped 12 i ≡ stopped r k = sym (last-left file i c h) ∙ e in
@@ -92,32 +92,32 @@ last-stopped file i c r k e = go (ltb (c .at) (length file)) refl
         let h : length file ≤ c .at = ltb-false (c .at) (length file) q in
         full (end .text .full) refl h (sym (last-printed file i c h) ∙ e)
 
-rest-stopped : (file : List ℕ) (m i : ℕ) (c : Running) (r k : ℕ) → c .text .text .full ≡ false → rest file m i c ≡ stopped r k → Stopped file (c .state .rec .n) (c .state .rec .w) m i c r k
+rest-stopped : (file : List ℕ) (m i : ℕ) (c : Running) (r k : ℕ) → c .text .text .full ≡ false → rest file m i c ≡ stopped r k → Stopped file (c .state .rec .sizes .n) (c .state .rec .sizes .w) m i c r k
 unfolding rest callsFrom endFrom run
 rest-stopped file zero i c r k f e =
     let L = last-stopped file i c r k e in
-    record { count = 0; is = omega (arith, L .0); stops = stops-none file (c .state .rec .n) (c .state .rec .w) 0 c r f (L .1) }
+    record { count = 0; is = omega (arith, L .0); stops = stops-none file (c .state .rec .sizes .n) (c .state .rec .sizes .w) 0 c r f (L .1) }
 rest-stopped file (suc m) i c r k f e = go (λ d. rest-stopped file m (suc i) d r k) (way file c)
   where
     from : {x : Next} → one file c ≡ x → after x i (rest file m (suc i)) ≡ stopped r k
     from q = ap (λ (x : Next). after x i (rest file m (suc i))) (sym q) ∙ e
 
-    here : {a : ℕ} → one file c ≡ stops a → (r ≡ a → Why file (c .state .rec .n) (c .state .rec .w) (suc m) c r 0) → Stopped file (c .state .rec .n) (c .state .rec .w) (suc m) i c r k
+    here : {a : ℕ} → one file c ≡ stops a → (r ≡ a → Why file (c .state .rec .sizes .n) (c .state .rec .sizes .w) (suc m) c r 0) → Stopped file (c .state .rec .sizes .n) (c .state .rec .sizes .w) (suc m) i c r k
     here {a} q y =
         let u : stopped a i ≡ stopped r k = from q in
         let v : r ≡ a = cc in
         let z : k ≡ i = cc in
-        record { count = 0; is = omega arith; stops = stops-none file (c .state .rec .n) (c .state .rec .w) (suc m) c r f (y v) }
+        record { count = 0; is = omega arith; stops = stops-none file (c .state .rec .sizes .n) (c .state .rec .sizes .w) (suc m) c r f (y v) }
 
-    first : appended (accessLines (callsFrom file (c .state .rec .n) (c .state .rec .w) (c .at) 1) (c .state)) (c .text) ≡ afterOne file c .text
+    first : appended (accessLines (callsFrom file (c .state .rec .sizes .n) (c .state .rec .sizes .w) (c .at) 1) (c .state)) (c .text) ≡ afterOne file c .text
     first = ap (λ (l : List ℕ). appended l (c .text)) (append-nil (lineOf (answerHere file c) (afterOne file c .state)))
 
-    go : ((d : Running) → d .text .text .full ≡ false → rest file m (suc i) d ≡ stopped r k → Stopped file (d .state .rec .n) (d .state .rec .w) m (suc i) d r k) → Way file c → Stopped file (c .state .rec .n) (c .state .rec .w) (suc m) i c r k
+    go : ((d : Running) → d .text .text .full ≡ false → rest file m (suc i) d ≡ stopped r k → Stopped file (d .state .rec .sizes .n) (d .state .rec .sizes .w) m (suc i) d r k) → Way file c → Stopped file (c .state .rec .sizes .n) (c .state .rec .sizes .w) (suc m) i c r k
     go again (goesOn q s a g) =
         let d = afterOne file c in
         let Z = same-sizes (callHere file c) (c .state) a in
-        let S : Stopped file (c .state .rec .n) (c .state .rec .w) m (suc i) d r k =
-        subst (λ (x : ℕ). Stopped file (c .state .rec .n) x m (suc i) d r k) (Z .1) (subst (λ (x : ℕ). Stopped file x (d .state .rec .w) m (suc i) d r k) (Z .0) (again d g (from q))) in
+        let S : Stopped file (c .state .rec .sizes .n) (c .state .rec .sizes .w) m (suc i) d r k =
+        subst (λ (x : ℕ). Stopped file (c .state .rec .sizes .n) x m (suc i) d r k) (Z .1) (subst (λ (x : ℕ). Stopped file x (d .state .rec .sizes .w) m (suc i) d r k) (Z .0) (again d g (from q))) in
         record { count = suc (S .count); is = omega (arith, S .is); stops = stops-more file m c r (S .count) s a (S .stops) }
     go again (isOver q s a g) = here q (λ v. whyOver (omega arith) s a (ap (λ (o : Out). o .text .full) first ∙ g) v)
     go again (isRefusedBy x q s g) = here q (λ v. whyRefused (omega arith) s (g ∙ ap model.refused (sym v)))

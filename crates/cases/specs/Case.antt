@@ -70,13 +70,13 @@ done c s at o = said (step c s .answer) (step c s .after) at o
 
 -- an access found, from which the reading goes on to a byte; or not found
 abbrev pub doneAs : Found → ℕ → State → Out → Next
-doneAs (found k values) next s o = done (callOf k (s .rec .w) values) s next o
+doneAs (found k values) next s o = done (callOf k (s .rec .sizes .w) values) s next o
 doneAs (accesses.refused k) next s o = stops k
 
 unfoldable pub one : List ℕ → Running → Next
 one file c =
-    let n = c .state .rec .n in
-    let w = c .state .rec .w in
+    let n = c .state .rec .sizes .n in
+    let w = c .state .rec .sizes .w in
     doneAs (accessAt file (c .at) n w) (goesOn file (c .at) n w) (c .state) (c .text)
 
 -- all accesses are done and the last line printed; or a refusal's number, and the accesses already printed

@@ -11,7 +11,7 @@ use Rattle.conditions.specs.Assignment.{bitAt}
 use Rattle.lines.specs.Lines.{writeLine, idleLine, readLine, assertLine, checkLine, endLine, refusedLine}
 use Rattle.model.specs.Record.{Record, freshPorts}
 use Rattle.model.specs.Step.{State, Access, write, read, assert, check, Call, access, Answer, refused, isRefused, answerWords, Result, step, run, AllAccepted}
-use Rattle.model.specs.Array.{Run, observed, Allowed}
+use Rattle.semantics.specs.Array.{Run, observed, Allowed}
 use Rattle.model.specs.Claims.{fed, events, Exactly}
 use Rattle.model.specs.Table.{NeverOne, MayBeOne}
 use Rattle.model.specs.Count.{entryCount, DiffersUnder}
@@ -196,14 +196,14 @@ CasePrints = (file words list text : List ℕ)
 pub record CaseExact (file words list : List ℕ) (r : Record) (c : Case) (φ : ℕ → Bool) : Type 0 where
   pub calls : Exactly (stateIn file words list) (callsIn file) φ
   pub checking : T (value (c .words) φ (r .checked))
-      ↔ ((q : Run (getD file 1 0) (events φ (stateIn file words list) (callsIn file))) (j : ℕ) → Allowed (observed (getD file 1 0) (events φ (stateIn file words list) (callsIn file)) q j))
+      ↔ ((q : Run (recordIn file .sizes) (events φ (stateIn file words list) (callsIn file))) (j : ℕ) → Allowed (observed (recordIn file .sizes) (events φ (stateIn file words list) (callsIn file)) q j))
 
 unfoldable pub CaseExactly : Type 0
 CaseExactly = (file words list text : List ℕ) (k : ℕ) (r : Record) → caseOf file words list text .answer ≡ accepts k r → (a : ℕ) → a < 2 ^ 64 → CaseExact file words list r (caseOf file words list text) (bitAt a)
 
 -- 02: "Budgets are planned from the last line": the count of entries, in the record that an accepted case answers and on its last line, is that of the file's accesses
 abbrev pub countIn : List ℕ → List ℕ → List ℕ → ℕ
-countIn file words list = entryCount (getD file 0 0) (getD file 1 0) (fed (stateIn file words list) (callsIn file))
+countIn file words list = entryCount (recordIn file .sizes) (fed (stateIn file words list) (callsIn file))
 
 pub record CaseCounts (file words list text : List ℕ) (r : Record) : Type 0 where
   pub entries : r .entries ≡ countIn file words list

@@ -3,15 +3,15 @@ ghost use mathlib.Core.Path.{_≡_};
 ghost use Prim.Native.Nat.{ℕ, _*_, _<_};
 ghost use lib.ListN.{length};
 ghost use Rattle.conditions.specs.Contract.{Sound, Did};
+ghost use Rattle.model.specs.Record.{cellWords};
 ghost use Rattle.model.specs.Access.{Assert, Check};
 ghost use Rattle.access.specs.Contract.{Nodes, Looks};
-ghost use Rattle.rows.specs.Contract.{recordOf};
 ghost use Rattle.comparisons.specs.Contract.{AssertBuiltDid};
 use access::ControlNode;
 use conditions::Built;
 use conditions::Store;
 use conditions::Table;
-use rows::Fields;
+use model::Fields;
 
 // What an assert builds before its entry, and the store that this left.
 pub struct AssertBuilt {
@@ -33,13 +33,11 @@ pub fn check_builds(
     data: &[u32],
     word: &mut [u32],
 ) -> Built
-    requires { ⌜ Sound (now words) (now table) s × Looks (r .n) (r .w) (r .entries) (s .count) (now list) (now address) × (length (now word) ≡ 2 * r .w) × (length (now «data») ≡ 2 * r .w) × Nodes (s .count) (now «data») × (b .0 < s .count) × (r .checked < s .count) ⌝ }
-    ensures { λ x. ⌜ Did s (now (words .exit)) (now (table .exit)) x (Check (recordOf r) (now (list .entry)) (b .0) (now (address .entry)) (now («data» .entry)) (now (words .entry)) s) ⌝ }
+    requires { ⌜ Sound (now words) (now table) s × Looks (r .sizes) (r .entries) (s .count) (now list) (now address) × (length (now word) ≡ cellWords r) × (length (now «data») ≡ cellWords r) × Nodes (s .count) (now «data») × (b .0 < s .count) × (r .checked < s .count) ⌝ }
+    ensures { λ x. ⌜ Did s (now (words .exit)) (now (table .exit)) x (Check r (now (list .entry)) (b .0) (now (address .entry)) (now («data» .entry)) (now (words .entry)) s) ⌝ }
 {
-    let n = r.n as usize;
-    let w = r.w as usize;
     let entries = r.entries as usize;
-    let u = access::look(words, table, s, n, w, entries, list, address, word);
+    let u = access::look(words, table, s, r.sizes, entries, list, address, word);
     let c = access::inside(words, table, u, word, data);
     let x = conditions::not(words, table, c.store, b.0);
     let y = conditions::or(words, table, x.store, x.node, c.node);
@@ -58,13 +56,11 @@ pub fn assert_builds(
     data: &[u32],
     word: &mut [u32],
 ) -> AssertBuilt
-    requires { ⌜ Sound (now words) (now table) s × Looks (r .n) (r .w) (r .entries) (s .count) (now list) (now address) × (length (now word) ≡ 2 * r .w) × (length (now «data») ≡ 2 * r .w) × Nodes (s .count) (now «data») × (b .0 < s .count) × (r .asserted < s .count) ⌝ }
-    ensures { λ x. ⌜ AssertBuiltDid s (now (words .exit)) (now (table .exit)) x (Assert (recordOf r) (now (list .entry)) (b .0) (now (address .entry)) (now («data» .entry)) (now (words .entry)) s) ⌝ }
+    requires { ⌜ Sound (now words) (now table) s × Looks (r .sizes) (r .entries) (s .count) (now list) (now address) × (length (now word) ≡ cellWords r) × (length (now «data») ≡ cellWords r) × Nodes (s .count) (now «data») × (b .0 < s .count) × (r .asserted < s .count) ⌝ }
+    ensures { λ x. ⌜ AssertBuiltDid s (now (words .exit)) (now (table .exit)) x (Assert r (now (list .entry)) (b .0) (now (address .entry)) (now («data» .entry)) (now (words .entry)) s) ⌝ }
 {
-    let n = r.n as usize;
-    let w = r.w as usize;
     let entries = r.entries as usize;
-    let u = access::look(words, table, s, n, w, entries, list, address, word);
+    let u = access::look(words, table, s, r.sizes, entries, list, address, word);
     let x = access::inside(words, table, u, data, word);
     let v = conditions::not(words, table, x.store, b.0);
     let y = conditions::or(words, table, v.store, v.node, x.node);

@@ -9,7 +9,7 @@ use Rattle.conditions.specs.Contract.{Sound}
 use Rattle.model.specs.Step.{begin}
 use Rattle.model.specs.Frames.{Valid, PortsValid}
 use Rattle.memory.specs.declared.Record.{Record}
-use Rattle.memory.specs.Contract.{recordOf, stateOf, memoryOf}
+use Rattle.memory.specs.Contract.{stateOf, memoryOf}
 use Rattle.cases.specs.Case.{Running, Next, goes, stops}
 use Rattle.entering.specs.declared.Run.{Run}
 use Rattle.entering.specs.declared.Step.{Step}
@@ -29,7 +29,7 @@ printedAs m t at = cond (t .full) (steps.Refused 13) (steps.On (record { memory 
 -- rows 1 to 3 refuse nothing, and the computed table is right: an access that sees no ports may be done
 pub record Ready (m : Record) (w l table : List ℕ) : Type 0 where
   pub valid : Valid (memoryOf m w l)
-  pub sound : Sound w table (begin (recordOf m))
+  pub sound : Sound w table (begin (m .fields))
 
 abbrev pub ReadyNext : Step → List ℕ → List ℕ → List ℕ → Type 0
 ReadyNext (steps.On c) w l table = Ready (c .memory) w l table

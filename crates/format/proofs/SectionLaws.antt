@@ -65,7 +65,7 @@ module _ (file words : List ℕ) where
   pub no-head : length file < 2 → 10 ≡ firstRow (earlyRows file words)
   no-head h = rw (lt-leb 2 (length file) h)
 
-  module _ (h : 2 ≤ length file) {n w : ℕ} (en : n ≡ getD file 0 0) (ew : w ≡ getD file 1 0) {b : Bool} (e : b ≡ row1 (freshRecord n w) []) where
+  module _ (h : 2 ≤ length file) {n w : ℕ} (en : n ≡ getD file 0 0) (ew : w ≡ getD file 1 0) {b : Bool} (e : b ≡ row1 (freshRecord (record { n = n; w = w })) []) where
     range-same : b ≡ row1 (recordIn file) words
     unfolding row1
     range-same = rw (← en, ← ew) e

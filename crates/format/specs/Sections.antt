@@ -25,7 +25,7 @@ pub data Sections : Type 0 where
 
 -- the record with which a case begins: that of Fresh, with the file's nodes counted
 abbrev pub firstRecord : ℕ → ℕ → ℕ → Record
-firstRecord n w count = withCount (freshRecord n w) count
+firstRecord n w count = withCount (freshRecord (record { n = n; w = w })) count
 
 -- "2-byte count of nodes"
 abbrev pub nodesIn : List ℕ → ℕ

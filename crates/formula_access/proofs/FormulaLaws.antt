@@ -4,6 +4,7 @@ use mathlib.Core.List.{List, []}
 use Prim.Native.Nat.{ℕ, zero, suc}
 use native.Mathlib.Omega.{arith}
 use Rattle.conditions.specs.Contract.{Sound}
+use Rattle.model.specs.Record.{withCount}
 use Rattle.model.specs.Rows.{firstRow, memoryRows}
 use Rattle.model.specs.Step.{Access, begin}
 use Rattle.model.specs.Frames.{Valid}
@@ -11,18 +12,18 @@ use Rattle.formula_calls.specs.Call.{Making, faulty, refusedBy, stopped, allMad
 use Rattle.formula_calls.specs.Chain.{FormulaAnswered}
 use Rattle.formula_calls.proofs.FoundLaws.{memory-told}
 use Rattle.formulas.specs.Reading.{judgeText}
-use Rattle.rows.specs.declared.Fields.{Fields}
-use Rattle.rows.specs.Contract.{recordOf, stateOf}
+use Rattle.model.specs.declared.Fields.{Fields}
+use Rattle.rows.specs.Contract.{stateOf}
 use Rattle.rows.proofs.CallLaws.{memory-valid, valid-standard, valid-rows}
 use Rattle.making.specs.Contract.{triplesFrom, MayMake, MadeAs}
 use Rattle.making.proofs.MakingLaws.{accesses-same}
 use Rattle.preparing.specs.declared.Prepared.{Prepared}
 use Rattle.preparing.specs.declared.Prepared.the-variants as prepared
-use Rattle.preparing.specs.Contract.{Prepares, comesTo, grown, ListedIn, PreparedAs}
+use Rattle.preparing.specs.Contract.{Prepares, comesTo, ListedIn, PreparedAs}
 use Rattle.preparing.proofs.TripleLaws.{from-many}
 
 -- rows 1 to 3 refuse it
-pub memory-refuses : (k : Making) (text predicates out : List ℕ) (r : Fields) (w l : List ℕ) {row : ℕ} → row ≡ firstRow (memoryRows (recordOf r) w l []) → (row ≡ 0 → ⊥)
+pub memory-refuses : (k : Making) (text predicates out : List ℕ) (r : Fields) (w l : List ℕ) {row : ℕ} → row ≡ firstRow (memoryRows r w l []) → (row ≡ 0 → ⊥)
     → FormulaAnswered k text predicates out (stateOf r w l) (stateOf r w l) out (refusedBy row)
 unfolding formulaStep readFormula
 memory-refuses k text predicates out r w l {row} e n = ap (λ (j : ℕ). finishFormula k predicates out (stateOf r w l) (unlessRow j (byVerdict text out (judgeText (limitsOf (stateOf r w l) predicates) text)))) (sym e) ∙ go row n
@@ -32,11 +33,11 @@ memory-refuses k text predicates out r w l {row} e n = ap (λ (j : ℕ). finishF
     go (suc j) n = refl
 
 -- they do not
-module _ (r : Fields) (w l : List ℕ) {row : ℕ} (e : row ≡ firstRow (memoryRows (recordOf r) w l [])) (z : row ≡ 0) where
+module _ (r : Fields) (w l : List ℕ) {row : ℕ} (e : row ≡ firstRow (memoryRows r w l [])) (z : row ≡ 0) where
   pub valid : Valid (stateOf r w l)
   valid = memory-valid (stateOf r w l) e z
 
-  pub may-prepare : (t : List ℕ) → Sound w t (begin (recordOf r)) → Prepares r w t
+  pub may-prepare : (t : List ℕ) → Sound w t (begin r) → Prepares r w t
   may-prepare t S = record { range = memory-told (stateOf r w l) .none (valid-rows (stateOf r w l) valid []) .0; standard = valid-standard (stateOf r w l) valid; sound = S }
 
   module _ (k : Making) (text predicates out : List ℕ) where
@@ -55,15 +56,15 @@ module _ (r : Fields) (w l : List ℕ) {row : ℕ} (e : row ≡ firstRow (memory
         listed-in : ListedIn r w l text predicates out w′ t′ out′ count listed
         listed-in = subst (PreparedAs r w text predicates out w′ t′ out′) q P l valid
 
-        pub may-make : MayMake (grown r count) w′ l t′ predicates out′ listed
+        pub may-make : MayMake (withCount r count) w′ l t′ predicates out′ listed
         may-make = listed-in .may
 
-        pub formula-made : {r″ : Fields} {w″ l″ : List ℕ} (j many : ℕ) → MadeAs k (grown r count) w′ l predicates out′ listed r″ w″ l″ j many
+        pub formula-made : {r″ : Fields} {w″ l″ : List ℕ} (j many : ℕ) → MadeAs k (withCount r count) w′ l predicates out′ listed r″ w″ l″ j many
             → FormulaAnswered k text predicates out (stateOf r w l) (stateOf r″ w″ l″) out′ (answerBy j listed many)
         formula-made {r″} {w″} {l″} j many M =
             let ts = triplesFrom out′ 0 listed in
-            let same = accesses-same k r (grown r count) predicates ts refl refl in
-            let m : make (accessesBy k (recordOf r) predicates ts) (stateOf (grown r count) w′ l) ≡ record { many = many; row = j; after = stateOf r″ w″ l″ } = ap (λ (cs : List Access). make cs (stateOf (grown r count) w′ l)) (sym same) ∙ M .is in
+            let same = accesses-same k r (withCount r count) predicates ts refl in
+            let m : make (accessesBy k r predicates ts) (stateOf (withCount r count) w′ l) ≡ record { many = many; row = j; after = stateOf r″ w″ l″ } = ap (λ (cs : List Access). make cs (stateOf (withCount r count) w′ l)) (sym same) ∙ M .is in
             comes ∙ listed-in .comes k
             ∙ ap₂ (λ (x : Made) (n : ℕ). record { answer = answerBy (x .row) n (x .many); after = x .after; words = listedOver ts out }) m (from-many out′ 0 listed)
             ∙ ap (λ (o : List ℕ). record { answer = answerBy j listed many; after = stateOf r″ w″ l″; words = o }) (sym (listed-in .words))

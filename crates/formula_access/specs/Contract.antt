@@ -4,7 +4,7 @@ use Prim.Native.Nat.{ℕ}
 use Rattle.formula_calls.specs.Call as calls
 use Rattle.formula_calls.specs.Call.{Making}
 use Rattle.formula_calls.specs.Chain.{FormulaAnswered}
-use Rattle.rows.specs.declared.Fields.{Fields}
+use Rattle.model.specs.declared.Fields.{Fields}
 use Rattle.rows.specs.Contract.{stateOf}
 use Rattle.formula_access.specs.declared.FormulaAnswer.{FormulaAnswer}
 use Rattle.formula_access.specs.declared.FormulaAnswer.the-variants as answers

@@ -1,12 +1,12 @@
 // Asserts and checks by a written formula.
 ghost use mathlib.Core.Path.{_≡_};
 ghost use Rattle.formula_calls.specs.Call.{asserting, checking, answerBy};
-ghost use Rattle.preparing.specs.Contract.{grown};
+ghost use Rattle.model.specs.Record.{withCount};
 ghost use Rattle.formula_access.specs.Contract.{answerOf, FormulaAnswers};
 use conditions::Table;
 use making::Made;
+use model::Fields;
 use preparing::Prepared;
-use rows::Fields;
 
 // All that are listed were made; stopped at an access that a row refuses, with how many were made before it; refused by the call itself; or refused for the text, at a place in it.
 pub enum FormulaAnswer {
@@ -25,7 +25,7 @@ pub enum FormulaAnswer {
     },
 }
 
-// The fields after a formula, and its answer.
+// The record after a formula, and its answer.
 pub struct FormulaDone {
     pub after: Fields,
     pub answer: FormulaAnswer,
@@ -53,9 +53,9 @@ fn answered(m: Made, listed: usize) -> FormulaDone
     }
 }
 
-// The fields with another count of nodes.
+// The record with another count of nodes.
 fn with_count(r: Fields, count: u32) -> Fields
-    ensures { λ x. ⌜ x ≡ grown r count ⌝ }
+    ensures { λ x. ⌜ x ≡ withCount r count ⌝ }
 {
     let mut after = r;
     after.count = count;
@@ -73,7 +73,7 @@ pub fn assert_formula(
 ) -> FormulaDone
     ensures { λ x. ⌜ FormulaAnswers asserting (now (text .entry)) (now (predicates .entry)) (now (answer .entry)) r (now (words .entry)) (now (list .entry)) (x .after) (now (words .exit)) (now (list .exit)) (now (answer .exit)) (x .answer) ⌝ }
 {
-    let k = r.memory_row(words, list);
+    let k = rows::memory_row(r, words, list);
     if k != 0 {
         return FormulaDone {
             after: r,
@@ -118,7 +118,7 @@ pub fn check_formula(
 ) -> FormulaDone
     ensures { λ x. ⌜ FormulaAnswers checking (now (text .entry)) (now (predicates .entry)) (now (answer .entry)) r (now (words .entry)) (now (list .entry)) (x .after) (now (words .exit)) (now (list .entry)) (now (answer .exit)) (x .answer) ⌝ }
 {
-    let k = r.memory_row(words, list);
+    let k = rows::memory_row(r, words, list);
     if k != 0 {
         return FormulaDone {
             after: r,

@@ -3,7 +3,8 @@ use mathlib.Core.Path.{_≡_, refl, sym, ap, subst, _∙_}
 use mathlib.Core.List.{List, [], _∷_, _++_}
 use Rattle.conditions.specs.Assignment.{bitAt}
 use Rattle.model.specs.Step.{State, Call, step, run}
-use Rattle.model.specs.Claims.{ExactlyAsRuns}
+use Rattle.semantics.specs.Claims.{ExactlyAsRuns}
+use Rattle.model.specs.Claims.{told}
 use Rattle.model.specs.Chain.{Link, Chained, lastState, eventsOf, MayBe, ChainExactly}
 use Rattle.model.specs.Count.{ChainCount}
 use Rattle.model.proofs.ChainLaws.{chain-exactly, chain-count}
@@ -39,13 +40,13 @@ any-spelled-out s (formula k ∷ ks) C =
 
 pub formula-chain-exactly : FormulaChainExactly
 unfolding FormulaChainExactly AnySpelledOut ChainExactly
-formula-chain-exactly given n w ws ps s e ks C a h =
+formula-chain-exactly given z ws ps s e ks C a h =
     let S = any-spelled-out s ks C in
     let ls = spelledOut s ks in
-    subst (ExactlyAsRuns (bitAt a) (s .rec .w) (eventsOf (bitAt a) s ls) (MayBe (bitAt a) ls)) (S .last) (chain-exactly given n w ws ps s e ls (S .chained) a h)
+    subst (λ (t : State). ExactlyAsRuns (s .rec .sizes) (eventsOf (bitAt a) s ls) (told (bitAt a) (MayBe (bitAt a) ls) t)) (S .last) (chain-exactly given z ws ps s e ls (S .chained) a h)
 
 pub formula-chain-count : FormulaChainCount
 unfolding FormulaChainCount AnySpelledOut ChainCount
-formula-chain-count given n w ws ps s e ks C =
+formula-chain-count given z ws ps s e ks C =
     let S = any-spelled-out s ks C in
-    ap (λ (t : State). t .rec .entries) (sym (S .last)) ∙ chain-count given n w ws ps s e (spelledOut s ks) (S .chained)
+    ap (λ (t : State). t .rec .entries) (sym (S .last)) ∙ chain-count given z ws ps s e (spelledOut s ks) (S .chained)

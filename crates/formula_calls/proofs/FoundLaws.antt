@@ -18,7 +18,7 @@ use Rattle.model.specs.Table.{Fact, Names, EachArrow, memoryFacts, AllHold, Fir
 use Rattle.model.specs.Step.{State, conditions, nodeCall, refused, step}
 use Rattle.model.proofs.FactLaws.{either, Told, told, not-both, row1-tells, row3-tells, names}
 use Rattle.model.proofs.TableLaws.{refused-exactly}
-use Rattle.model.proofs.PairLaws.{T→eq}
+use Rattle.semantics.proofs.PairLaws.{T→eq}
 use Rattle.formula_calls.specs.Call.{limitsOf, faulty, refusedBy, Found, turnsDown, reads, unlessRow, byVerdict, readFormula}
 
 -- rows 1 to 3, as facts

@@ -7,7 +7,7 @@ use lib.ListN.{length}
 use Rattle.model.specs.Record.{Record}
 use Rattle.model.specs.Formula.{Triple}
 use Rattle.model.specs.Step.{State, withPorts, conditions, access, nodeCall, Answer, refused, done, triplesOf, Result, step}
-use Rattle.model.specs.Frames.{isRead, PortsUnseen}
+use Rattle.model.specs.Frames.{seesPorts, PortsUnseen}
 use Rattle.model.proofs.UnseenLaws.{ports-unseen}
 use Rattle.formula_calls.specs.Call.{Making, asserting, checking, inOrder, listedOver, accessBy, accessesBy, Made, unlessRefused, make, FormulaAnswer, FormulaResult, Found, turnsDown, reads, readFormula, answerBy, afterBuilding, finishFormula, formulaStep}
 use Rattle.formula_calls.specs.Claims.{FormulaPortsUnseen}
@@ -20,7 +20,7 @@ madeWith ps m = record { many = m .many; row = m .row; after = withPorts (m .aft
 abbrev leftWith : List ℕ → FormulaResult → FormulaResult
 leftWith ps x = record { answer = x .answer; after = withPorts (x .after) ps; words = x .words }
 
-no-read : (k : Making) (r : Record) (table : List ℕ) (t : Triple) → isRead (access (accessBy k r table t)) ≡ false
+no-read : (k : Making) (r : Record) (table : List ℕ) (t : Triple) → seesPorts (access (accessBy k r table t)) ≡ false
 no-read asserting r table t = refl
 no-read checking r table t = refl
 

@@ -24,15 +24,15 @@ use Rattle.formula_calls.proofs.FoundLaws.{memory, memory-row, Finds, b
 -- the numbers
 module _ (table : List ℕ) (s : State) where
   -- a predicate that the table has whole
-  whole : (p : ℕ) → 1 ≤ s .rec .n → (p < predicatesIn (s .rec) table) ↔ ((p + 1) * (2 * s .rec .n + 2 * s .rec .w) ≤ length table)
+  whole : (p : ℕ) → 1 ≤ s .rec .sizes .n → (p < predicatesIn (s .rec) table) ↔ ((p + 1) * (2 * s .rec .sizes .n + 2 * s .rec .sizes .w) ≤ length table)
   whole p l =
       let positive : 0 < predicateWords (s .rec) = omega arith in
       (λ h. let q : p + 1 ≤ predicatesIn (s .rec) table = omega (arith, h) in le-div-iff-mul-le positive .0 q, λ h. let q : p + 1 ≤ predicatesIn (s .rec) table = le-div-iff-mul-le positive .1 h in omega (arith, q))
 
-  predicate-is : (p : ℕ) → 1 ≤ s .rec .n → limitsOf s table .predicates p ≡ true → ((p + 1) * (2 * s .rec .n + 2 * s .rec .w) ≤ length table) × (p ≤ 4294967295)
+  predicate-is : (p : ℕ) → 1 ≤ s .rec .sizes .n → limitsOf s table .predicates p ≡ true → ((p + 1) * (2 * s .rec .sizes .n + 2 * s .rec .sizes .w) ≤ length table) × (p ≤ 4294967295)
   predicate-is p l e = let (a, b) = and-both _ _ e in (whole p l .0 (ltb-true _ _ a), leb-true _ _ b)
 
-  is-predicate : (p : ℕ) → 1 ≤ s .rec .n → ((p + 1) * (2 * s .rec .n + 2 * s .rec .w) ≤ length table) × (p ≤ 4294967295) → limitsOf s table .predicates p ≡ true
+  is-predicate : (p : ℕ) → 1 ≤ s .rec .sizes .n → ((p + 1) * (2 * s .rec .sizes .n + 2 * s .rec .sizes .w) ≤ length table) × (p ≤ 4294967295) → limitsOf s table .predicates p ≡ true
   is-predicate p l h = both-and (lt-ltb _ _ (whole p l .1 (h .0))) (le-leb _ _ (h .1))
 
   pub numbers-exactly : NumbersExactly table s

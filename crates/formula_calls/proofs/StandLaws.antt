@@ -12,7 +12,8 @@ use Rattle.model.specs.Step.{State, withWords, Call, Answer, refused, done, isR
 use Rattle.model.specs.Frames.{wordsAfter, clears, Extended, SuccessLeaves, RefusalLeaves, Valid, StaysValid}
 use Rattle.model.specs.Table.{AllHold}
 use Rattle.model.proofs.FactLaws.{row1-tells, row3-tells}
-use Rattle.model.proofs.FrameLaws.{refusal-leaves, success-leaves, stays-valid}
+use Rattle.model.proofs.FrameLaws.{stays-valid, no-upkeep}
+use Rattle.model.proofs.StandLaws.{StandsIn, step-stands}
 use Rattle.model.proofs.FormulaLaws.{StandListed}
 use Rattle.formula_calls.proofs.FoundLaws.{memory}
 
@@ -25,36 +26,11 @@ memory-valid s A =
       three = row3-tells (s .rec) (s .words) (s .list) .so (A .1 .1 .0);
     }
 
--- in the state s node n stands for m
-abbrev pub StandsIn : Meaning → ℕ → State → Type 0
-StandsIn m n s = Stands 8 m (s .words) (begin (s .rec)) n
-
 module _ (m : Meaning) (n : ℕ) where
-  extended-stands : (s t : State) → Valid s → Valid t → Extended s t → StandsIn m n s → StandsIn m n t
-  extended-stands s t H K E = keep X (standard-is (s .words) (s .rec .count) (H .two))
-    where
-      x : Outcome ℕ
-      x = record { words = t .words; store = begin (t .rec); answer = 0 }
-
-      X : Builds (s .words) (begin (s .rec)) (λ w s a. Unit {0}) x
-      X = record { standard = standard-is (t .words) (t .rec .count) (K .two); extends = E .nodes; stuck = λ f. absurd (true≢false (sym f)); post = tt }
-
-  cleared-stands : (s : State) (b : Bool) → Valid s → StandsIn m n s → StandsIn m n (withWords s (wordsAfter b s))
-  cleared-stands s true H N = clear-keep {s = begin (s .rec)} (standard-is (s .words) (s .rec .count) (H .two)) N
-  cleared-stands s false H N = N
-
-  pub step-stands : (c : Call) (s : State) → Valid s → StandsIn m n s → StandsIn m n (step c s .after)
-  unfolding StaysValid SuccessLeaves RefusalLeaves
-  step-stands c s H N = go (step c s .answer) refl
-    where
-      go : (x : Answer) → step c s .answer ≡ x → StandsIn m n (step c s .after)
-      go (refused k) e = subst (StandsIn m n) (sym (refusal-leaves c s k e)) (cleared-stands s (clears k) H N)
-      go (done g) e = extended-stands s (step c s .after) H (stays-valid c s H) (success-leaves c s (ap isRefused e)) N
-
   run-stands : (cs : List Call) (s : State) → Valid s → StandsIn m n s → StandsIn m n (run cs s)
   unfolding run StaysValid
   run-stands [] s H N = N
-  run-stands (c ∷ cs) s H N = run-stands cs (step c s .after) (stays-valid c s H) (step-stands c s H N)
+  run-stands (c ∷ cs) s H N = run-stands cs (step c s .after) (stays-valid c s H) (step-stands m n c s (no-upkeep c) H N)
 
 -- and triples stay what they are
 pub run-listed : (v : List ℕ) (cs : List Call) (s : State) → Valid s → (ls : List Listed) (ts : List Triple) → StandListed v ls (s .words) (begin (s .rec)) ts → let t = run cs s in StandListed v ls (t .words) (begin (t .rec)) ts

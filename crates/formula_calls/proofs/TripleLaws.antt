@@ -18,7 +18,7 @@ use Rattle.model.specs.Formula.{Triple}
 use Rattle.model.specs.Step.{State, Call, access, Answer, refused, done, step}
 use Rattle.model.proofs.FormulaLaws.{StandListed}
 use Rattle.model.proofs.ListLaws.{part-size}
-use Rattle.model.proofs.PairLaws.{T→eq}
+use Rattle.semantics.proofs.PairLaws.{T→eq}
 use Rattle.formula_calls.specs.Call.{Making, asserting, checking, limitsOf, inOrder, listedOver, addressAt, wordAt, accessBy, accessesBy}
 use Rattle.formula_calls.specs.Claims.{unlessRefused, tried, StandInWords, PredicateAt, MadeOf, is-assert, is-check, MadeAsListed}
 use Rattle.formula_calls.proofs.RowLaws.{numbers-exactly}
@@ -30,7 +30,7 @@ parted l a e h = let z : a + (e - a) ≡ e = omega (arith, h) in sym (take-appen
 
 -- a table of m words has predicate p whole, and those that are named
 abbrev Fits : Record → ℕ → ℕ → Type 0
-Fits r m p = (p + 1) * (2 * r .n + 2 * r .w) ≤ m
+Fits r m p = (p + 1) * (2 * r .sizes .n + 2 * r .sizes .w) ≤ m
 
 abbrev AllFit : Record → ℕ → List Listed → Type 0
 AllFit r m [] = Unit {0}
@@ -43,18 +43,18 @@ TriplesFit r m (t ∷ ts) = Fits r m (t .named) × TriplesFit r m ts
 module _ (r : Record) (table : List ℕ) where
   predicate-at : (p : ℕ) → Fits r (length table) p → PredicateAt r table p (addressAt r table p) (wordAt r table p)
   predicate-at p h =
-      let b : ℕ = p * (2 * r .n + 2 * r .w) in
-      let e : ℕ = b + 2 * r .n in
-      let f : ℕ = b + (2 * r .n + 2 * r .w) in
-      let g : (p + 1) * (2 * r .n + 2 * r .w) ≡ f = rw (add-one) (suc-mul p (2 * r .n + 2 * r .w)) in
-      let x : e + 2 * r .w ≡ f = omega arith in
+      let b : ℕ = p * (2 * r .sizes .n + 2 * r .sizes .w) in
+      let e : ℕ = b + 2 * r .sizes .n in
+      let f : ℕ = b + (2 * r .sizes .n + 2 * r .sizes .w) in
+      let g : (p + 1) * (2 * r .sizes .n + 2 * r .sizes .w) ≡ f = rw (add-one) (suc-mul p (2 * r .sizes .n + 2 * r .sizes .w)) in
+      let x : e + 2 * r .sizes .w ≡ f = omega arith in
       record {
         before = take b table;
         past = drop f table;
         is = sym (take-append-drop b table) ∙ ap (λ (l : List ℕ). take b table ++ l) (parted table b e (omega arith) ∙ ap (λ (l : List ℕ). part table b e ++ l) (parted table e f (omega arith)));
         at = length-take-le b table (omega (arith, g, h));
-        address-long = part-size table b (2 * r .n) (omega (arith, g, h));
-        word-long = ap (λ (i : ℕ). length (part table e i)) (sym x) ∙ part-size table e (2 * r .w) (omega (arith, g, h));
+        address-long = part-size table b (2 * r .sizes .n) (omega (arith, g, h));
+        word-long = ap (λ (i : ℕ). length (part table e i)) (sym x) ∙ part-size table e (2 * r .sizes .w) (omega (arith, g, h));
       }
 
   made-of : (k : Making) (t : Triple) → Fits r (length table) (t .named) → MadeOf r table (t .condition) (t .named) k (access (accessBy k r table t))
@@ -102,7 +102,7 @@ module _ (r : Record) (m : ℕ) where
   fit-stand v w s (l ∷ ls) [] L W = absurd L
   fit-stand v w s (l ∷ ls) (t ∷ ts) L W = (subst (Fits r m) (sym (L .0 .same-named)) (W .0), fit-stand v w s ls ts (L .1) (W .1))
 
-module _ (table : List ℕ) (s : State) (positive : 1 ≤ s .rec .n) where
+module _ (table : List ℕ) (s : State) (positive : 1 ≤ s .rec .sizes .n) where
   fit-listed : (k : ℕ) (bs : List ℕ) (t : Tree) → numbers (limitsOf s table) t ≡ true → AllFit (s .rec) (length table) (listed k bs t)
   fit-listed k bs (predicate p) e = (numbers-exactly table s .predicates p positive .0 e .0, tt)
   fit-listed k bs (next t) e = fit-listed (suc k) bs t e

@@ -4,11 +4,13 @@ use mathlib.Core.Bool.{Bool}
 use mathlib.Core.List.{List, [], _∷_, _++_}
 use Prim.Native.Nat.{ℕ, _^_, _<_}
 use Rattle.conditions.specs.Assignment.{bitAt}
+use Rattle.semantics.specs.declared.Sizes.{Sizes}
 use Rattle.model.specs.Record.{Record}
 use Rattle.model.specs.Step.{State, Call, accepted, done, step, fresh}
-use Rattle.model.specs.Claims.{ExactlyAsRuns}
+use Rattle.semantics.specs.Claims.{ExactlyAsRuns}
+use Rattle.model.specs.Claims.{told}
 use Rattle.model.specs.Chain.{Answered, Link, Chained, lastState, fedOf, eventsOf, MayBe, freshed}
-use Rattle.model.specs.Count.{entryCount}
+use Rattle.model.specs.Count.{entryCount, total}
 use Rattle.formula_calls.specs.Call.{Making, FormulaAnswer, formulaStep}
 use Rattle.formula_calls.specs.Claims.{callsOf}
 
@@ -69,15 +71,15 @@ AnySpelledOut = (s : State) (ks : List AnyLink) → AllChained s ks → SpelledO
 
 -- demand 3 of every list of calls and formulas that ran from an accepted Fresh: read bits, held words and the check condition in the state after the last are exactly what the plain runs of its accesses give
 abbrev pub AnyExactlyRuns : State → List AnyLink → (ℕ → Bool) → Type 0
-AnyExactlyRuns s ks φ = ExactlyAsRuns φ (s .rec .w) (eventsOf φ s (spelledOut s ks)) (MayBe φ (spelledOut s ks)) (lastOf s ks)
+AnyExactlyRuns s ks φ = ExactlyAsRuns (s .rec .sizes) (eventsOf φ s (spelledOut s ks)) (told φ (MayBe φ (spelledOut s ks)) (lastOf s ks))
 
 unfoldable pub FormulaChainExactly : Type 0
 FormulaChainExactly =
-    (given : Record) (n w : ℕ) (ws ps : List ℕ) (s : State) → freshed (fresh given n w ws ps) ≡ (done accepted, s .rec, s .words, s .ports)
+    (given : Record) (z : Sizes) (ws ps : List ℕ) (s : State) → freshed (fresh given z ws ps) ≡ (done accepted, s .rec, s .words, s .ports)
     → (ks : List AnyLink) → AllChained s ks → (a : ℕ) → a < 2 ^ 64 → AnyExactlyRuns s ks (bitAt a)
 
 -- and the count of its entries
 unfoldable pub FormulaChainCount : Type 0
 FormulaChainCount =
-    (given : Record) (n w : ℕ) (ws ps : List ℕ) (s : State) → freshed (fresh given n w ws ps) ≡ (done accepted, s .rec, s .words, s .ports)
-    → (ks : List AnyLink) → AllChained s ks → lastOf s ks .rec .entries ≡ entryCount (s .rec .n) (s .rec .w) (fedOf s (spelledOut s ks))
+    (given : Record) (z : Sizes) (ws ps : List ℕ) (s : State) → freshed (fresh given z ws ps) ≡ (done accepted, s .rec, s .words, s .ports)
+    → (ks : List AnyLink) → AllChained s ks → total (lastOf s ks .rec) ≡ entryCount (s .rec .sizes) (fedOf s (spelledOut s ks))

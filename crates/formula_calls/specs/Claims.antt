@@ -77,7 +77,7 @@ pub record ReadAs (text table : List ℕ) (s : State) (t : Tree) : Type 0 where
 
 -- the numbers that are not refused: a predicate of 2n + 2w words that the table has whole, and no number past 4,294,967,295; a node that 5 would not refuse
 pub record NumbersExactly (table : List ℕ) (s : State) : Type 0 where
-  pub predicates : (p : ℕ) → 1 ≤ s .rec .n → (limitsOf s table .predicates p ≡ true) ↔ (((p + 1) * (2 * s .rec .n + 2 * s .rec .w) ≤ length table) × (p ≤ 4294967295))
+  pub predicates : (p : ℕ) → 1 ≤ s .rec .sizes .n → (limitsOf s table .predicates p ≡ true) ↔ (((p + 1) * (2 * s .rec .sizes .n + 2 * s .rec .sizes .w) ≤ length table) × (p ≤ 4294967295))
   pub nodes : (b : ℕ) → (limitsOf s table .nodes b ≡ true) ↔ Names (s .rec) (s .words) b
 
 -- each row of the call itself is met exactly there: 1 to 3 by the memory; 15 and 16 at the first place of the text at which a row is met; 13 by an answer slice of fewer than three words for each predicate; 9 by the conditions
@@ -125,9 +125,9 @@ pub record PredicateAt (r : Record) (table : List ℕ) (p : ℕ) (address word :
   pub before : List ℕ
   pub past : List ℕ
   pub is : table ≡ before ++ (address ++ (word ++ past))
-  pub at : length before ≡ p * (2 * r .n + 2 * r .w)
-  pub address-long : length address ≡ 2 * r .n
-  pub word-long : length word ≡ 2 * r .w
+  pub at : length before ≡ p * (2 * r .sizes .n + 2 * r .sizes .w)
+  pub address-long : length address ≡ 2 * r .sizes .n
+  pub word-long : length word ≡ 2 * r .sizes .w
 
 -- the call is an assert, or a check, of predicate p under node b
 pub data MadeOf (r : Record) (table : List ℕ) (b p : ℕ) : Making → Call → Type 0 where

@@ -1,7 +1,6 @@
 // Asserts and checks by a written formula, on the record.
 ghost use mathlib.Core.Path.{_≡_};
 ghost use Rattle.formula_calls.specs.Call.{asserting, checking};
-ghost use Rattle.memory.specs.Contract.{fieldsOf};
 ghost use Rattle.formula_record.specs.Contract.{FormulaAnswersAnyPorts};
 pub use formula_access::FormulaAnswer;
 use formula_access::FormulaDone;
@@ -13,9 +12,10 @@ pub struct FormulaResult {
 }
 
 fn formula_result(d: FormulaDone) -> FormulaResult
-    ensures { λ x. ⌜ (fieldsOf (x .after) ≡ d .after) × (x .answer ≡ d .answer) ⌝ }
+    ensures { λ x. ⌜ (x .after .fields ≡ d .after) × (x .answer ≡ d .answer) ⌝ }
 {
-    let after = memory::recorded(d.after);
+    let fields = d.after;
+    let after = Record { fields };
     let answer = d.answer;
     FormulaResult { after, answer }
 }
@@ -31,8 +31,7 @@ pub fn assert_formula(
 ) -> FormulaResult
     ensures { λ x. ⌜ FormulaAnswersAnyPorts asserting (now (text .entry)) (now (predicates .entry)) (now (answer .entry)) r (now (words .entry)) (now (list .entry)) (x .after) (now (words .exit)) (now (list .exit)) (now (answer .exit)) (x .answer) ⌝ }
 {
-    let f = r.fields();
-    formula_result(formula_access::assert_formula(f, words, list, text, predicates, answer))
+    formula_result(formula_access::assert_formula(r.fields, words, list, text, predicates, answer))
 }
 
 // Checks by one.
@@ -46,6 +45,5 @@ pub fn check_formula(
 ) -> FormulaResult
     ensures { λ x. ⌜ FormulaAnswersAnyPorts checking (now (text .entry)) (now (predicates .entry)) (now (answer .entry)) r (now (words .entry)) (now (list .entry)) (x .after) (now (words .exit)) (now (list .entry)) (now (answer .exit)) (x .answer) ⌝ }
 {
-    let f = r.fields();
-    formula_result(formula_access::check_formula(f, words, list, text, predicates, answer))
+    formula_result(formula_access::check_formula(r.fields, words, list, text, predicates, answer))
 }

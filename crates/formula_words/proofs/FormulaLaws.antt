@@ -4,7 +4,6 @@ use mathlib.Core.List.{List, []}
 use Prim.Native.Nat.{ℕ}
 use Rattle.model.specs.Record as model
 use Rattle.memory.specs.declared.Record.{Record}
-use Rattle.memory.specs.Contract.{recordOf}
 use Rattle.formula_record.specs.Contract.{FormulaAnswersAnyPorts}
 use Rattle.formula_access.specs.declared.FormulaAnswer.{FormulaAnswer}
 use Rattle.formula_access.specs.Contract.{answerOf}
@@ -13,9 +12,9 @@ use Rattle.record_words.specs.Words.{recordIn, wordsOf}
 use Rattle.formula_words.specs.Contract.{Told, told, tells, leftFormula, formulaBy, formulaCalled}
 
 pub formula-is : (k : Making) (text table : List ℕ) {m m′ : Record} {r′ w′ l′ a′ : List ℕ} (r w l a : List ℕ) (n i p : ℕ) (x : FormulaAnswer) {j n′ i′ p′ : ℕ}
-    → recordOf m ≡ recordIn r
+    → m .fields ≡ recordIn r
     → FormulaAnswersAnyPorts k text table a m w l m′ w′ l′ a′ x
-    → r′ ≡ wordsOf (recordOf m′)
+    → r′ ≡ wordsOf (m′ .fields)
     → told j n′ i′ p′ ≡ tells (answerOf x) n i p
     → leftFormula j r′ w′ l′ a′ n′ i′ p′ ≡ formulaCalled k text table r w l a n i p
 unfolding formulaCalled

@@ -4,10 +4,11 @@ ghost use Rattle.formula_calls.specs.Call.{asserting, checking};
 ghost use Rattle.formula_access.specs.Contract.{answerOf};
 ghost use Rattle.formula_words.specs.Contract.{Told, tells, told, leftFormula, formulaCalled};
 use formula_record::FormulaAnswer;
+use record_words::RecordWords;
 
 // Asserts by a written formula.
 pub fn assert_formula(
-    record: &mut [u32; 6],
+    record: &mut RecordWords,
     nodes: &mut [u32],
     list: &mut [u32],
     text: &[u8],
@@ -34,7 +35,7 @@ pub fn assert_formula(
 
 // Checks by one.
 pub fn check_formula(
-    record: &mut [u32; 6],
+    record: &mut RecordWords,
     nodes: &mut [u32],
     list: &[u32],
     text: &[u8],

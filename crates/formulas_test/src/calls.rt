@@ -1,6 +1,7 @@
 // A call of a written formula on the buffers.
 use stored::Bytes;
 use stored::Item;
+use stored::RecordWords;
 use stored::Words;
 use stored::changed;
 use stored::length;
@@ -11,13 +12,13 @@ struct Done {
     listed: u64,
     made: u64,
     place: u64,
-    record: [u32; 6],
+    record: RecordWords,
 }
 
 // A kind of 1 asserts, another checks.
 fn formula(
     kind: u32,
-    r: [u32; 6],
+    r: RecordWords,
     nodes: &mut [u32],
     list: &mut [u32],
     text: &[u8],
@@ -65,7 +66,7 @@ fn formula(
 // One that is lent so many bytes and words to be read.
 fn given(
     x: Item,
-    r: [u32; 6],
+    r: RecordWords,
     nodes: &mut [u32],
     list: &mut [u32],
     text: &[u8],
@@ -80,7 +81,7 @@ fn given(
 // One that is lent so many words to be written.
 fn lend(
     x: Item,
-    r: [u32; 6],
+    r: RecordWords,
     nodes: &mut [u32],
     list: &mut [u32],
     text: &[u8],
@@ -116,13 +117,13 @@ fn show(number: u32, done: Done) {
 // A call and its line; the record after it.
 pub fn call(
     x: Item,
-    r: [u32; 6],
+    r: RecordWords,
     nodes: &mut Words,
     list: &mut Words,
     text: &Bytes,
     table: &Words,
     answer: &mut Words,
-) -> [u32; 6] {
+) -> RecordWords {
     let old_nodes = *nodes;
     let old_list = *list;
     let old_answer = *answer;

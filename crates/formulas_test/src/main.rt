@@ -4,6 +4,7 @@ mod calls;
 
 use stored::Bytes;
 use stored::Item;
+use stored::RecordWords;
 use stored::Words;
 
 // The first number says which buffer.
@@ -28,13 +29,13 @@ fn store(
 // An item; the record after it.
 fn run(
     x: Item,
-    r: [u32; 6],
+    r: RecordWords,
     nodes: &mut Words,
     list: &mut Words,
     text: &mut Bytes,
     table: &mut Words,
     answer: &mut Words,
-) -> [u32; 6] {
+) -> RecordWords {
     if x.kind == 10 {
         return [x.a, x.b, x.c, x.d, x.e, x.f];
     }
@@ -47,7 +48,7 @@ fn run(
 
 // All items, on buffers of zeros at first.
 fn main() {
-    let mut r: [u32; 6] = [0; 6];
+    let mut r: RecordWords = [0; 6];
     let mut nodes: Words = [0; 49160];
     let mut list: Words = [0; 49160];
     let mut text: Bytes = [0; 65600];

@@ -30,11 +30,11 @@ fn read_into(
     ops: &[u32],
     word: &mut [u32],
 ) -> Step
-    requires { ⌜ Ready (c .memory) (now words) (now list) (now table) × PortsValid (stateOf (c .memory) (now words) (now list) (now ports)) × (length (now ops) ≡ sizeOf kinds.Read (c .memory .n) (c .memory .w)) × (now word ≡ replicate (2 * c .memory .w) 0) ⌝ }
-    ensures { λ r. ⌜ StepAs r (now (words .exit)) (now (list .entry)) (now (buf .exit)) (now (table .exit)) (now (ports .exit)) (done (callOf kinds.Read (c .memory .w) (told kinds.Read (c .memory .n) (c .memory .w) port (now (ops .entry)))) (stateOf (c .memory) (now (words .entry)) (now (list .entry)) (now (ports .entry))) (c .at) (out (now (buf .entry)) (c .text))) ⌝ }
+    requires { ⌜ Ready (c .memory) (now words) (now list) (now table) × PortsValid (stateOf (c .memory) (now words) (now list) (now ports)) × (length (now ops) ≡ sizeOf kinds.Read (c .memory .fields .sizes .n) (c .memory .fields .sizes .w)) × (now word ≡ replicate (2 * c .memory .fields .sizes .w) 0) ⌝ }
+    ensures { λ r. ⌜ StepAs r (now (words .exit)) (now (list .entry)) (now (buf .exit)) (now (table .exit)) (now (ports .exit)) (done (callOf kinds.Read (c .memory .fields .sizes .w) (told kinds.Read (c .memory .fields .sizes .n) (c .memory .fields .sizes .w) port (now (ops .entry)))) (stateOf (c .memory) (now (words .entry)) (now (list .entry)) (now (ports .entry))) (c .at) (out (now (buf .entry)) (c .text))) ⌝ }
 {
     let memory = c.memory;
-    let e = reading::ends_of(Kind::Read, memory.n, memory.w);
+    let e = reading::ends_of(Kind::Read, memory.fields.sizes.n, memory.fields.sizes.w);
     let b = e.control;
     let a = e.address;
     let r = memory.read_on(
@@ -51,7 +51,7 @@ fn read_into(
     let answer = r.answer;
     match answer {
         ReadAnswer::Filled => {
-            let t = printing::put_read(buf, c.text, words, after.count, word);
+            let t = printing::put_read(buf, c.text, words, after.fields.count, word);
             entering::printed(after, t, c.at)
         }
         ReadAnswer::Refused(k) => Step::Refused(k),
@@ -69,11 +69,11 @@ pub fn do_read(
     port: u32,
     ops: &[u32],
 ) -> Step
-    requires { ⌜ Ready (c .memory) (now words) (now list) (now table) × PortsValid (stateOf (c .memory) (now words) (now list) (now ports)) × (length (now ops) ≡ sizeOf kinds.Read (c .memory .n) (c .memory .w)) ⌝ }
-    ensures { λ r. ⌜ StepAs r (now (words .exit)) (now (list .entry)) (now (buf .exit)) (now (table .exit)) (now (ports .exit)) (done (callOf kinds.Read (c .memory .w) (told kinds.Read (c .memory .n) (c .memory .w) port (now (ops .entry)))) (stateOf (c .memory) (now (words .entry)) (now (list .entry)) (now (ports .entry))) (c .at) (out (now (buf .entry)) (c .text))) ⌝ }
+    requires { ⌜ Ready (c .memory) (now words) (now list) (now table) × PortsValid (stateOf (c .memory) (now words) (now list) (now ports)) × (length (now ops) ≡ sizeOf kinds.Read (c .memory .fields .sizes .n) (c .memory .fields .sizes .w)) ⌝ }
+    ensures { λ r. ⌜ StepAs r (now (words .exit)) (now (list .entry)) (now (buf .exit)) (now (table .exit)) (now (ports .exit)) (done (callOf kinds.Read (c .memory .fields .sizes .w) (told kinds.Read (c .memory .fields .sizes .n) (c .memory .fields .sizes .w) port (now (ops .entry)))) (stateOf (c .memory) (now (words .entry)) (now (list .entry)) (now (ports .entry))) (c .at) (out (now (buf .entry)) (c .text))) ⌝ }
 {
     let memory = c.memory;
-    let size = 2 * (memory.w as usize);
+    let size = 2 * (memory.fields.sizes.w as usize);
     let mut word: [u32; 32] = [0; 32];
     read_into(
         words,
@@ -97,11 +97,11 @@ pub fn do_check(
     c: Run,
     ops: &[u32],
 ) -> Step
-    requires { ⌜ Ready (c .memory) (now words) (now list) (now table) × (length (now ops) ≡ sizeOf kinds.Check (c .memory .n) (c .memory .w)) ⌝ }
-    ensures { λ r. ⌜ ((ps : List ℕ) → StepAs r (now (words .exit)) (now (list .entry)) (now (buf .exit)) (now (table .exit)) ps (done (callOf kinds.Check (c .memory .w) (told kinds.Check (c .memory .n) (c .memory .w) 0 (now (ops .entry)))) (stateOf (c .memory) (now (words .entry)) (now (list .entry)) ps) (c .at) (out (now (buf .entry)) (c .text)))) ⌝ }
+    requires { ⌜ Ready (c .memory) (now words) (now list) (now table) × (length (now ops) ≡ sizeOf kinds.Check (c .memory .fields .sizes .n) (c .memory .fields .sizes .w)) ⌝ }
+    ensures { λ r. ⌜ ((ps : List ℕ) → StepAs r (now (words .exit)) (now (list .entry)) (now (buf .exit)) (now (table .exit)) ps (done (callOf kinds.Check (c .memory .fields .sizes .w) (told kinds.Check (c .memory .fields .sizes .n) (c .memory .fields .sizes .w) 0 (now (ops .entry)))) (stateOf (c .memory) (now (words .entry)) (now (list .entry)) ps) (c .at) (out (now (buf .entry)) (c .text)))) ⌝ }
 {
     let memory = c.memory;
-    let e = reading::ends_of(Kind::Check, memory.n, memory.w);
+    let e = reading::ends_of(Kind::Check, memory.fields.sizes.n, memory.fields.sizes.w);
     let b = e.control;
     let a = e.address;
     let d = e.word;
@@ -117,7 +117,13 @@ pub fn do_check(
     let answer = r.answer;
     match answer {
         CheckAnswer::Accepted => {
-            let t = printing::put_check(buf, c.text, words, after.count, after.checked);
+            let t = printing::put_check(
+                buf,
+                c.text,
+                words,
+                after.fields.count,
+                after.fields.checked,
+            );
             entering::printed(after, t, c.at)
         }
         CheckAnswer::Refused(k) => Step::Refused(k),

@@ -1,16 +1,17 @@
 // Look, over a store, a list and an address that are already tested.
 ghost use mathlib.Core.Path.{_≡_};
-ghost use Prim.Native.Nat.{_*_, _<_};
+ghost use Prim.Native.Nat.{_<_};
 ghost use lib.ListN.{length, replicate};
 ghost use Rattle.conditions.specs.Contract.{Sound, Did};
 ghost use Rattle.conditions.specs.Build.{forEach};
-ghost use Rattle.model.specs.Record.{entryAt};
+ghost use Rattle.model.specs.Record.{cellWords, entryAt};
 ghost use Rattle.model.specs.Access.{EachHalf, entryStep, settleHalf, Look};
 ghost use Rattle.addresses.specs.Contract.{Nodes, WordDid, shape, Looks};
 use conditions::Built;
 use conditions::Store;
 use conditions::Table;
 use merging::DataNode;
+use semantics::Sizes;
 
 // Any(And(inside, r))
 fn settle_half(words: &mut [u32], table: &mut Table, s: Store, inside: u32, r: DataNode) -> Built
@@ -53,24 +54,23 @@ fn scan(
     words: &mut [u32],
     table: &mut Table,
     s: Store,
-    n: usize,
-    w: usize,
+    z: Sizes,
     entries: usize,
     inside: u32,
     list: &[u32],
     address: &[u32],
     word: &mut [u32],
 ) -> Store
-    requires { ⌜ Sound (now words) (now table) s × Looks n w entries (s .count) (now list) (now address) × (length (now word) ≡ 2 * w) × Nodes (s .count) (now word) × (inside < s .count) ⌝ }
-    ensures { λ u. ⌜ WordDid s (now (words .exit)) (now (table .exit)) u (now (word .exit)) (forEach (λ j. entryStep (shape n w 0) inside (entryAt (shape n w 0) (now (list .entry)) j)) 0 entries (now (word .entry)) (now (words .entry)) s) ⌝ }
+    requires { ⌜ Sound (now words) (now table) s × Looks z entries (s .count) (now list) (now address) × (length (now word) ≡ cellWords (shape z 0)) × Nodes (s .count) (now word) × (inside < s .count) ⌝ }
+    ensures { λ u. ⌜ WordDid s (now (words .exit)) (now (table .exit)) u (now (word .exit)) (forEach (λ j. entryStep (shape z 0) inside (entryAt (shape z 0) (now (list .entry)) j)) 0 entries (now (word .entry)) (now (words .entry)) s) ⌝ }
 {
-    let size = 2 + 2 * n + 2 * w;
+    let size = ranges::entry_words(z);
     let mut u = s;
     let mut j = 0;
     while j < entries {
         let at = j * size;
         let end = at + size;
-        u = merging::look_entry(words, table, u, n, w, inside, &list[at..end], word);
+        u = merging::look_entry(words, table, u, z, inside, &list[at..end], word);
         j += 1;
     }
     u
@@ -81,24 +81,23 @@ pub fn look(
     words: &mut [u32],
     table: &mut Table,
     s: Store,
-    n: usize,
-    w: usize,
+    z: Sizes,
     entries: usize,
     list: &[u32],
     address: &[u32],
     word: &mut [u32],
 ) -> Store
-    requires { ⌜ Sound (now words) (now table) s × Looks n w entries (s .count) (now list) (now address) × (length (now word) ≡ 2 * w) ⌝ }
-    ensures { λ u. ⌜ WordDid s (now (words .exit)) (now (table .exit)) u (now (word .exit)) (Look (shape n w entries) (now (list .entry)) (now (address .entry)) (now (words .entry)) s) ⌝ }
+    requires { ⌜ Sound (now words) (now table) s × Looks z entries (s .count) (now list) (now address) × (length (now word) ≡ cellWords (shape z 0)) ⌝ }
+    ensures { λ u. ⌜ WordDid s (now (words .exit)) (now (table .exit)) u (now (word .exit)) (Look (shape z entries) (now (list .entry)) (now (address .entry)) (now (words .entry)) s) ⌝ }
 {
+    let n = z.n as usize;
     let inside = addresses::narrow(words, table, s, n, address, 1);
     fill(word);
     let t = scan(
         words,
         table,
         inside.store,
-        n,
-        w,
+        z,
         entries,
         inside.node,
         list,

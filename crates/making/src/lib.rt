@@ -3,16 +3,16 @@ ghost use mathlib.Core.Path.{_≡_};
 ghost use Prim.Native.Nat.{ℕ, _*_, _<_, _≤_};
 ghost use Rattle.model.specs.Step.{accepted};
 ghost use Rattle.formula_calls.specs.Call.{asserting, checking, accessBy, predicateWords};
-ghost use Rattle.rows.specs.Contract.{recordOf, stateOf, unlessRefused, AnswersOn};
+ghost use Rattle.rows.specs.Contract.{stateOf, unlessRefused, AnswersOn};
 ghost use Rattle.assert_access.specs.Contract.{assertAnswer};
 ghost use Rattle.making.specs.Contract.{tripleAt, Named, NamedAt, Makes, MayMake, MadeAs};
 use access::ControlNode;
 use assert_access::AssertDone;
 use conditions::Table;
+use model::Fields;
 use rows::Done;
-use rows::Fields;
 
-// The fields that are left, the row of the first access that was refused, or 0, and how many were made before it.
+// The record that is left, the row of the first access that was refused, or 0, and how many were made before it.
 pub struct Made {
     pub after: Fields,
     pub row: u32,
@@ -21,10 +21,9 @@ pub struct Made {
 
 // The words of a predicate: an address, and data.
 pub fn predicate_words(r: Fields) -> usize
-    requires { ⌜ (r .n ≤ 8) × (r .w ≤ 16) ⌝ }
-    ensures { λ k. ⌜ k ≡ predicateWords (recordOf r) ⌝ }
+    ensures { λ k. ⌜ k ≡ predicateWords r ⌝ }
 {
-    2 * (r.n as usize) + 2 * (r.w as usize)
+    ranges::address_words(r.sizes) + ranges::cell_words(r.sizes)
 }
 
 fn wide(x: u32) -> usize
@@ -47,11 +46,9 @@ fn named_at(r: Fields, predicates: &[u32], triples: &[u32], i: usize) -> Place
 {
     let size = predicate_words(r);
     let at = wide(triples[3 * i + 2]) * size;
-    Place {
-        at,
-        word: at + 2 * (r.n as usize),
-        end: at + size,
-    }
+    let word = at + ranges::address_words(r.sizes);
+    let end = at + size;
+    Place { at, word, end }
 }
 
 // The assert by triple i.
@@ -65,7 +62,7 @@ fn assert_by(
     i: usize,
 ) -> AssertDone
     requires { ⌜ Makes r (now words) (now list) (now table) (now predicates) (now triples) i ⌝ }
-    ensures { λ x. ⌜ AnswersOn (accessBy asserting (recordOf r) (now (predicates .entry)) (tripleAt (now (triples .entry)) i)) (stateOf r (now (words .entry)) (now (list .entry))) (stateOf (x .after) (now (words .exit)) (now (list .exit))) (assertAnswer (x .row) (x .kept)) (now (table .exit)) ⌝ }
+    ensures { λ x. ⌜ AnswersOn (accessBy asserting r (now (predicates .entry)) (tripleAt (now (triples .entry)) i)) (stateOf r (now (words .entry)) (now (list .entry))) (stateOf (x .after) (now (words .exit)) (now (list .exit))) (assertAnswer (x .row) (x .kept)) (now (table .exit)) ⌝ }
 {
     let b = ControlNode(triples[3 * i + 1]);
     let p = named_at(r, predicates, triples, i);
@@ -88,7 +85,7 @@ fn check_by(
     i: usize,
 ) -> Done
     requires { ⌜ Makes r (now words) (now list) (now table) (now predicates) (now triples) i ⌝ }
-    ensures { λ x. ⌜ AnswersOn (accessBy checking (recordOf r) (now (predicates .entry)) (tripleAt (now (triples .entry)) i)) (stateOf r (now (words .entry)) (now (list .entry))) (stateOf (x .after) (now (words .exit)) (now (list .entry))) (unlessRefused (x .row) accepted) (now (table .exit)) ⌝ }
+    ensures { λ x. ⌜ AnswersOn (accessBy checking r (now (predicates .entry)) (tripleAt (now (triples .entry)) i)) (stateOf r (now (words .entry)) (now (list .entry))) (stateOf (x .after) (now (words .exit)) (now (list .entry))) (unlessRefused (x .row) accepted) (now (table .exit)) ⌝ }
 {
     let b = ControlNode(triples[3 * i + 1]);
     let p = named_at(r, predicates, triples, i);

@@ -5,7 +5,6 @@ use mathlib.Core.List.{List}
 use Prim.Native.Nat.{ℕ}
 use Rattle.model.specs.Record as model
 use Rattle.model.specs.Step.{State, NodeCall, read, place, idle, filled, entered, kept, accepted, valued, node, Answer, refused, done, answerWords, Access}
-use Rattle.rows.specs.declared.Fields.{Fields}
 use Rattle.rows.specs.Contract as rows
 use Rattle.model.specs.Chain.{AnswersNode}
 pub use Rattle.rows.specs.Contract.{Answers, Next, AnswersOn}
@@ -27,18 +26,12 @@ use Rattle.memory.specs.declared.ValueAnswer.{ValueAnswer}
 use Rattle.memory.specs.declared.ValueAnswer.the-variants as value
 
 -- the record, node words, list and ports of a call
-abbrev pub fieldsOf : Record → Fields
-fieldsOf r = record { n = r .n; w = r .w; count = r .count; entries = r .entries; asserted = r .asserted; checked = r .checked }
-
-abbrev pub recordOf : Record → model.Record
-recordOf r = rows.recordOf (fieldsOf r)
-
 abbrev pub stateOf : Record → List ℕ → List ℕ → List ℕ → State
-stateOf r w l ps = rows.portedOf (fieldsOf r) w l ps
+stateOf r w l ps = rows.portedOf (r .fields) w l ps
 
 -- of a call that sees no ports
 abbrev pub memoryOf : Record → List ℕ → List ℕ → State
-memoryOf r w l = rows.stateOf (fieldsOf r) w l
+memoryOf r w l = rows.stateOf (r .fields) w l
 
 abbrev pub freshAnswer : FreshAnswer → Answer
 freshAnswer fresh.Accepted = done accepted
@@ -72,11 +65,11 @@ valueAnswer (value.Value b) = done (valued b)
 valueAnswer (value.Refused k) = refused k
 
 -- a record and an answer say what is in these fields and this answer
-abbrev pub Says : Record → Fields → Answer → Answer → Type 0
-Says r f a b = (fieldsOf r ≡ f) × (a ≡ b)
+abbrev pub Says : Record → model.Record → Answer → Answer → Type 0
+Says r f a b = (r .fields ≡ f) × (a ≡ b)
 
 -- the same of a read, whose answer are the words that it filled
-abbrev pub SaysRead : Record → Fields → ReadAnswer → ℕ → Type 0
+abbrev pub SaysRead : Record → model.Record → ReadAnswer → ℕ → Type 0
 SaysRead r f x k = (out : List ℕ) → Says r f (readAnswer x out) (rows.unlessRefused k (filled out))
 
 -- an access that is lent no ports: whatever they are, they stay

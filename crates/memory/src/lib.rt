@@ -1,32 +1,28 @@
-// The calls, as methods on the record: each hands the record's fields on to the crate below that does it, and says its answer.
+// The calls, as methods on the record: each hands its fields on to the crate below that does it, and says its answer.
 ghost use mathlib.Core.Path.{_≡_};
-ghost use Prim.Native.Nat.{_*_};
 ghost use lib.ListN.{length};
 ghost use Rattle.conditions.specs.Contract.{Sound};
+ghost use Rattle.model.specs.Record.{addressWords, cellWords, dataWords};
 ghost use Rattle.model.specs.Step.{accepted, node, valued, begin, write, assert, check, evaluate, variable, ite, fresh};
 ghost use Rattle.model.specs.Frames.{Valid, PortsValid};
 ghost use Rattle.rows.specs.Contract.{unlessRefused};
 ghost use Rattle.node_calls.specs.Contract.{numbered, freshed};
 ghost use Rattle.write_access.specs.Contract as write_access;
 ghost use Rattle.assert_access.specs.Contract as assert_access;
-ghost use Rattle.memory.specs.Contract.{fieldsOf, recordOf, stateOf, memoryOf, freshAnswer, writeAnswer, assertAnswer, checkAnswer, nodeAnswer, valueAnswer, Says, SaysRead, AnswersAnyPorts, AnswersOnAnyPorts, AnswersNoList, ReadAnswers, ReadAnswersOn};
+ghost use Rattle.memory.specs.Contract.{stateOf, memoryOf, freshAnswer, writeAnswer, assertAnswer, checkAnswer, nodeAnswer, valueAnswer, Says, SaysRead, AnswersAnyPorts, AnswersOnAnyPorts, AnswersNoList, ReadAnswers, ReadAnswersOn};
 use access::ControlNode;
 use assert_access::AssertDone;
 use conditions::Table;
+use model::Fields;
 use node_calls::NodeDone;
 use node_calls::ValueDone;
 use rows::Done;
-use rows::Fields;
+use semantics::Sizes;
 use write_access::WriteDone;
 
-// A memory of n address bits and w data bits: its counts of nodes and entries, and its two conditions.
+// The record of a memory, on which the calls are methods.
 pub struct Record {
-    pub n: u32,
-    pub w: u32,
-    pub count: u32,
-    pub entries: u32,
-    pub asserted: u32,
-    pub checked: u32,
+    pub fields: Fields,
 }
 
 pub enum FreshAnswer {
@@ -103,25 +99,12 @@ pub struct ValueResult {
     pub answer: ValueAnswer,
 }
 
-// The record of these fields.
-pub fn recorded(f: Fields) -> Record
-    ensures { λ r. ⌜ fieldsOf r ≡ f ⌝ }
-{
-    Record {
-        n: f.n,
-        w: f.w,
-        count: f.count,
-        entries: f.entries,
-        asserted: f.asserted,
-        checked: f.checked,
-    }
-}
-
 // What each call answers by its number, and where that is 0.
 fn fresh_result(d: Done) -> FreshResult
     ensures { λ x. ⌜ Says (x .after) (d .after) (freshAnswer (x .answer)) (numbered (d .row)) ⌝ }
 {
-    let after = recorded(d.after);
+    let fields = d.after;
+    let after = Record { fields };
     let k = d.row;
     if k != 0 {
         return FreshResult {
@@ -138,7 +121,8 @@ fn fresh_result(d: Done) -> FreshResult
 fn write_result(d: WriteDone, at: u32) -> WriteResult
     ensures { λ x. ⌜ Says (x .after) (d .after) (writeAnswer (x .answer)) (write_access.writeAnswer (d .row) (d .idle) at) ⌝ }
 {
-    let after = recorded(d.after);
+    let fields = d.after;
+    let after = Record { fields };
     let k = d.row;
     if k != 0 {
         return WriteResult {
@@ -161,7 +145,8 @@ fn write_result(d: WriteDone, at: u32) -> WriteResult
 fn read_result(d: Done) -> ReadResult
     ensures { λ x. ⌜ SaysRead (x .after) (d .after) (x .answer) (d .row) ⌝ }
 {
-    let after = recorded(d.after);
+    let fields = d.after;
+    let after = Record { fields };
     let k = d.row;
     if k != 0 {
         return ReadResult {
@@ -178,7 +163,8 @@ fn read_result(d: Done) -> ReadResult
 fn check_result(d: Done) -> CheckResult
     ensures { λ x. ⌜ Says (x .after) (d .after) (checkAnswer (x .answer)) (unlessRefused (d .row) accepted) ⌝ }
 {
-    let after = recorded(d.after);
+    let fields = d.after;
+    let after = Record { fields };
     let k = d.row;
     if k != 0 {
         return CheckResult {
@@ -195,7 +181,8 @@ fn check_result(d: Done) -> CheckResult
 fn node_result(d: NodeDone) -> NodeResult
     ensures { λ x. ⌜ Says (x .after) (d .after) (nodeAnswer (x .answer)) (unlessRefused (d .row) (node (d .node))) ⌝ }
 {
-    let after = recorded(d.after);
+    let fields = d.after;
+    let after = Record { fields };
     let k = d.row;
     if k != 0 {
         return NodeResult {
@@ -212,7 +199,8 @@ fn node_result(d: NodeDone) -> NodeResult
 fn assert_result(d: AssertDone) -> AssertResult
     ensures { λ x. ⌜ Says (x .after) (d .after) (assertAnswer (x .answer)) (assert_access.assertAnswer (d .row) (d .kept)) ⌝ }
 {
-    let after = recorded(d.after);
+    let fields = d.after;
+    let after = Record { fields };
     let k = d.row;
     if k != 0 {
         return AssertResult {
@@ -233,7 +221,7 @@ fn assert_result(d: AssertDone) -> AssertResult
 }
 
 fn value_result(r: Record, d: ValueDone) -> ValueResult
-    ensures { λ x. ⌜ Says (x .after) (fieldsOf r) (valueAnswer (x .answer)) (unlessRefused (d .row) (valued (d .value))) ⌝ }
+    ensures { λ x. ⌜ Says (x .after) (r .fields) (valueAnswer (x .answer)) (unlessRefused (d .row) (valued (d .value))) ⌝ }
 {
     let k = d.row;
     if k != 0 {
@@ -249,46 +237,32 @@ fn value_result(r: Record, d: ValueDone) -> ValueResult
 }
 
 impl Record {
-    // What the crates below work on.
-    pub fn fields(self) -> Fields
-        ensures { λ f. ⌜ f ≡ fieldsOf self ⌝ }
-    {
-        Fields {
-            n: self.n,
-            w: self.w,
-            count: self.count,
-            entries: self.entries,
-            asserted: self.asserted,
-            checked: self.checked,
-        }
-    }
-
     // Fresh: a memory with no entries and both conditions 1, over node words that hold the two terminals, and ports that hold X.
-    pub fn fresh(self, words: &mut [u32], ports: &mut [u32; 128], n: u32, w: u32) -> FreshResult
-        ensures { λ r. ⌜ freshed (fresh (recordOf self) n w (now (words .entry)) (now (ports .entry))) ≡ (freshAnswer (r .answer), recordOf (r .after), now (words .exit), now (ports .exit)) ⌝ }
+    pub fn fresh(self, words: &mut [u32], ports: &mut [u32; 128], z: Sizes) -> FreshResult
+        ensures { λ r. ⌜ freshed (fresh (self .fields) z (now (words .entry)) (now (ports .entry))) ≡ (freshAnswer (r .answer), r .after .fields, now (words .exit), now (ports .exit)) ⌝ }
     {
-        fresh_result(node_calls::fresh(self.fields(), words, ports, n, w))
+        fresh_result(node_calls::fresh(self.fields, words, ports, z))
     }
 
     // The value of node f under the 64-bit assignment a.
     pub fn evaluate(self, words: &[u32], f: u32, a: u64) -> ValueResult
         ensures { λ r. ⌜ AnswersNoList (evaluate f a) self (now (words .entry)) (r .after) (now (words .entry)) (valueAnswer (r .answer)) ⌝ }
     {
-        value_result(self, node_calls::evaluate(self.fields(), words, f, a))
+        value_result(self, node_calls::evaluate(self.fields, words, f, a))
     }
 
     // The node of variable v.
     pub fn variable(self, words: &mut [u32], v: u32) -> NodeResult
         ensures { λ r. ⌜ AnswersNoList (variable v) self (now (words .entry)) (r .after) (now (words .exit)) (nodeAnswer (r .answer)) ⌝ }
     {
-        node_result(node_calls::variable(self.fields(), words, v))
+        node_result(node_calls::variable(self.fields, words, v))
     }
 
     // The node of Ite(f, g, h).
     pub fn ite(self, words: &mut [u32], f: u32, g: u32, h: u32) -> NodeResult
         ensures { λ r. ⌜ AnswersNoList (ite f g h) self (now (words .entry)) (r .after) (now (words .exit)) (nodeAnswer (r .answer)) ⌝ }
     {
-        node_result(node_calls::ite(self.fields(), words, f, g, h))
+        node_result(node_calls::ite(self.fields, words, f, g, h))
     }
 
     // A write to a valid memory: rows 5 and 6; then it is idle, or rows 9 and 8, and the entry.
@@ -301,13 +275,12 @@ impl Record {
         address: &[u32],
         data: &[u32],
     ) -> WriteResult
-        requires { ⌜ Valid (memoryOf self (now words) (now list)) × Sound (now words) (now table) (begin (recordOf self)) × (length (now enable) ≡ 2) × (length (now address) ≡ 2 * self .n) × (length (now «data») ≡ 2 * self .w) ⌝ }
+        requires { ⌜ Valid (memoryOf self (now words) (now list)) × Sound (now words) (now table) (begin (self .fields)) × (length (now enable) ≡ 2) × (length (now address) ≡ addressWords (self .fields)) × (length (now «data») ≡ dataWords (self .fields)) ⌝ }
         ensures { λ r. ⌜ AnswersOnAnyPorts (write (now (enable .entry)) (now (address .entry)) (now («data» .entry))) self (now (words .entry)) (now (list .entry)) (r .after) (now (words .exit)) (now (list .exit)) (writeAnswer (r .answer)) (now (table .exit)) ⌝ }
     {
-        let f = self.fields();
         write_result(
-            write_access::write_on(f, words, list, table, enable, address, data),
-            self.entries,
+            write_access::write_on(self.fields, words, list, table, enable, address, data),
+            self.fields.entries,
         )
     }
 
@@ -322,10 +295,9 @@ impl Record {
     ) -> WriteResult
         ensures { λ r. ⌜ AnswersAnyPorts (write (now (enable .entry)) (now (address .entry)) (now («data» .entry))) self (now (words .entry)) (now (list .entry)) (r .after) (now (words .exit)) (now (list .exit)) (writeAnswer (r .answer)) ⌝ }
     {
-        let f = self.fields();
         write_result(
-            write_access::write(f, words, list, enable, address, data),
-            self.entries,
+            write_access::write(self.fields, words, list, enable, address, data),
+            self.fields.entries,
         )
     }
 
@@ -341,12 +313,11 @@ impl Record {
         address: &[u32],
         answer: &mut [u32],
     ) -> ReadResult
-        requires { ⌜ Valid (stateOf self (now words) (now list) (now ports)) × PortsValid (stateOf self (now words) (now list) (now ports)) × Sound (now words) (now table) (begin (recordOf self)) × (length (now enable) ≡ 2) × (length (now address) ≡ 2 * self .n) × (length (now answer) ≡ 2 * self .w) ⌝ }
+        requires { ⌜ Valid (stateOf self (now words) (now list) (now ports)) × PortsValid (stateOf self (now words) (now list) (now ports)) × Sound (now words) (now table) (begin (self .fields)) × (length (now enable) ≡ 2) × (length (now address) ≡ addressWords (self .fields)) × (length (now answer) ≡ dataWords (self .fields)) ⌝ }
         ensures { λ r. ⌜ ReadAnswersOn self (now (words .entry)) (now (list .entry)) (now (ports .entry)) port (now (enable .entry)) (now (address .entry)) (now (answer .entry)) (r .after) (now (words .exit)) (now (ports .exit)) (now (answer .exit)) (r .answer) (now (table .exit)) ⌝ }
     {
-        let f = self.fields();
         read_result(read_access::read_on(
-            f,
+            self.fields,
             words,
             list,
             table,
@@ -371,8 +342,16 @@ impl Record {
     ) -> ReadResult
         ensures { λ r. ⌜ ReadAnswers self (now (words .entry)) (now (list .entry)) (now (ports .entry)) port (now (enable .entry)) (now (address .entry)) (now (answer .entry)) (r .after) (now (words .exit)) (now (ports .exit)) (now (answer .exit)) (r .answer) ⌝ }
     {
-        let f = self.fields();
-        read_result(read_access::read(f, words, list, ports, port, enable, address, answer))
+        read_result(read_access::read(
+            self.fields,
+            words,
+            list,
+            ports,
+            port,
+            enable,
+            address,
+            answer,
+        ))
     }
 
     // A check of a valid memory: rows 5 to 9, and the check condition.
@@ -385,11 +364,10 @@ impl Record {
         address: &[u32],
         data: &[u32],
     ) -> CheckResult
-        requires { ⌜ Valid (memoryOf self (now words) (now list)) × Sound (now words) (now table) (begin (recordOf self)) × (length (now address) ≡ 2 * self .n) × (length (now «data») ≡ 2 * self .w) ⌝ }
+        requires { ⌜ Valid (memoryOf self (now words) (now list)) × Sound (now words) (now table) (begin (self .fields)) × (length (now address) ≡ addressWords (self .fields)) × (length (now «data») ≡ cellWords (self .fields)) ⌝ }
         ensures { λ r. ⌜ AnswersOnAnyPorts (check (b .0) (now (address .entry)) (now («data» .entry))) self (now (words .entry)) (now (list .entry)) (r .after) (now (words .exit)) (now (list .entry)) (checkAnswer (r .answer)) (now (table .exit)) ⌝ }
     {
-        let f = self.fields();
-        check_result(check_access::check_on(f, words, list, table, b, address, data))
+        check_result(check_access::check_on(self.fields, words, list, table, b, address, data))
     }
 
     // Check(b, a, d).
@@ -403,8 +381,7 @@ impl Record {
     ) -> CheckResult
         ensures { λ r. ⌜ AnswersAnyPorts (check (b .0) (now (address .entry)) (now («data» .entry))) self (now (words .entry)) (now (list .entry)) (r .after) (now (words .exit)) (now (list .entry)) (checkAnswer (r .answer)) ⌝ }
     {
-        let f = self.fields();
-        check_result(check_access::check(f, words, list, b, address, data))
+        check_result(check_access::check(self.fields, words, list, b, address, data))
     }
 
     // An assert to a valid memory: rows 5 to 9, the assert condition, and the entry where it is not kept.
@@ -417,11 +394,10 @@ impl Record {
         address: &[u32],
         data: &[u32],
     ) -> AssertResult
-        requires { ⌜ Valid (memoryOf self (now words) (now list)) × Sound (now words) (now table) (begin (recordOf self)) × (length (now address) ≡ 2 * self .n) × (length (now «data») ≡ 2 * self .w) ⌝ }
+        requires { ⌜ Valid (memoryOf self (now words) (now list)) × Sound (now words) (now table) (begin (self .fields)) × (length (now address) ≡ addressWords (self .fields)) × (length (now «data») ≡ cellWords (self .fields)) ⌝ }
         ensures { λ r. ⌜ AnswersOnAnyPorts (assert (b .0) (now (address .entry)) (now («data» .entry))) self (now (words .entry)) (now (list .entry)) (r .after) (now (words .exit)) (now (list .exit)) (assertAnswer (r .answer)) (now (table .exit)) ⌝ }
     {
-        let f = self.fields();
-        assert_result(assert_access::assert_on(f, words, list, table, b, address, data))
+        assert_result(assert_access::assert_on(self.fields, words, list, table, b, address, data))
     }
 
     // Assert(b, a, d).
@@ -435,7 +411,6 @@ impl Record {
     ) -> AssertResult
         ensures { λ r. ⌜ AnswersAnyPorts (assert (b .0) (now (address .entry)) (now («data» .entry))) self (now (words .entry)) (now (list .entry)) (r .after) (now (words .exit)) (now (list .exit)) (assertAnswer (r .answer)) ⌝ }
     {
-        let f = self.fields();
-        assert_result(assert_access::assert(f, words, list, b, address, data))
+        assert_result(assert_access::assert(self.fields, words, list, b, address, data))
     }
 }

@@ -1,6 +1,7 @@
 // A call of the model on the buffers.
 use called::Done;
 use stored::Item;
+use stored::RecordWords;
 use stored::Words;
 use stored::changed;
 use stored::changed_ports;
@@ -9,7 +10,7 @@ use stored::length;
 // An access that is lent so many node words and list words.
 fn lend(
     x: Item,
-    r: [u32; 6],
+    r: RecordWords,
     nodes: &mut [u32],
     list: &mut [u32],
     ports: &mut [u32; 128],
@@ -32,14 +33,14 @@ fn lend(
 }
 
 // A call that is lent so many node words.
-fn lend_nodes(x: Item, r: [u32; 6], nodes: &mut [u32], ports: &mut [u32; 128]) -> Done {
+fn lend_nodes(x: Item, r: RecordWords, nodes: &mut [u32], ports: &mut [u32; 128]) -> Done {
     let m = length(x.a, nodes.len());
     called::node_call(x, r, &mut nodes[..m], ports)
 }
 
 fn once(
     x: Item,
-    r: [u32; 6],
+    r: RecordWords,
     nodes: &mut Words,
     list: &mut Words,
     ports: &mut [u32; 128],
@@ -56,7 +57,7 @@ fn once(
 // The same call so many times, each from where the one before it left off, a read once; the last.
 fn repeat(
     x: Item,
-    r: [u32; 6],
+    r: RecordWords,
     nodes: &mut Words,
     list: &mut Words,
     ports: &mut [u32; 128],
@@ -81,14 +82,14 @@ fn repeat(
 // A call and its line; the record after it.
 pub fn call(
     x: Item,
-    r: [u32; 6],
+    r: RecordWords,
     nodes: &mut Words,
     list: &mut Words,
     ports: &mut [u32; 128],
     enable: &Words,
     address: &Words,
     data: &mut Words,
-) -> [u32; 6] {
+) -> RecordWords {
     let old_nodes = *nodes;
     let old_list = *list;
     let old_data = *data;

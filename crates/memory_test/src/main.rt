@@ -3,6 +3,7 @@
 mod calls;
 
 use stored::Item;
+use stored::RecordWords;
 use stored::Words;
 
 // The first number says which buffer.
@@ -29,14 +30,14 @@ fn store(
 // An item; the record after it.
 fn run(
     x: Item,
-    r: [u32; 6],
+    r: RecordWords,
     nodes: &mut Words,
     list: &mut Words,
     control: &mut Words,
     address: &mut Words,
     data: &mut Words,
     ports: &mut [u32; 128],
-) -> [u32; 6] {
+) -> RecordWords {
     if x.kind == 10 {
         return [x.a, x.b, x.c, x.d, x.e, x.f];
     }
@@ -49,7 +50,7 @@ fn run(
 
 // All items, on buffers of zeros at first.
 fn main() {
-    let mut r: [u32; 6] = [0; 6];
+    let mut r: RecordWords = [0; 6];
     let mut nodes: Words = [0; 49160];
     let mut list: Words = [0; 49160];
     let mut control: Words = [0; 49160];

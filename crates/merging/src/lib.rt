@@ -1,13 +1,15 @@
 // What an entry makes of the word of a look, over a store and words that are already tested.
 ghost use mathlib.Core.Path.{_≡_};
-ghost use Prim.Native.Nat.{_+_, _*_, _<_, _≤_};
+ghost use Prim.Native.Nat.{_<_, _≤_};
 ghost use lib.ListN.{length, getD};
 ghost use Rattle.conditions.specs.Contract.{Sound, Did};
+ghost use Rattle.model.specs.Record.{cellWords, size};
 ghost use Rattle.model.specs.Access.{EachHalf, mergeHalf, entryStep};
 ghost use Rattle.addresses.specs.Contract.{Nodes, WordDid, shape};
 use conditions::Built;
 use conditions::Store;
 use conditions::Table;
+use semantics::Sizes;
 
 // A node number of the data domain.
 pub struct DataNode(pub u32);
@@ -67,17 +69,17 @@ pub fn look_entry(
     words: &mut [u32],
     table: &mut Table,
     s: Store,
-    n: usize,
-    w: usize,
+    z: Sizes,
     inside: u32,
     entry: &[u32],
     word: &mut [u32],
 ) -> Store
-    requires { ⌜ Sound (now words) (now table) s × (n ≤ 8) × (w ≤ 16) × (length (now entry) ≡ 2 + 2 * n + 2 * w) × (length (now word) ≡ 2 * w) × Nodes (s .count) (now entry) × Nodes (s .count) (now word) × (inside < s .count) ⌝ }
-    ensures { λ u. ⌜ WordDid s (now (words .exit)) (now (table .exit)) u (now (word .exit)) (entryStep (shape n w 0) inside (now (entry .entry)) (now (word .entry)) (now (words .entry)) s) ⌝ }
+    requires { ⌜ Sound (now words) (now table) s × (z .n ≤ 8) × (z .w ≤ 16) × (length (now entry) ≡ size (shape z 0)) × (length (now word) ≡ cellWords (shape z 0)) × Nodes (s .count) (now entry) × Nodes (s .count) (now word) × (inside < s .count) ⌝ }
+    ensures { λ u. ⌜ WordDid s (now (words .exit)) (now (table .exit)) u (now (word .exit)) (entryStep (shape z 0) inside (now (entry .entry)) (now (word .entry)) (now (words .entry)) s) ⌝ }
 {
-    let at = 2 + 2 * n;
-    let end = at + 2 * w;
+    let n = z.n as usize;
+    let at = 2 + ranges::address_words(z);
+    let end = at + ranges::cell_words(z);
     let m = addresses::narrow(words, table, s, n, &entry[2..at], inside);
     let hm = conditions::and(words, table, m.store, m.node, entry[0]);
     let sm = conditions::and(words, table, hm.store, m.node, entry[1]);

@@ -13,10 +13,10 @@ use Rattle.conditions.specs.Build.{Outcome, Build, pure, next, forEach}
 use Rattle.conditions.specs.Ite.{And}
 use Rattle.conditions.specs.Meaning.{Meaning, Builds}
 use Rattle.conditions.proofs.Promises.{pure-builds, next-builds, builds-weaker, each-builds}
-use Rattle.model.specs.Pairs.{Pair, X, admit, admits, known, unique, at}
+use Rattle.semantics.specs.Pairs.{Pair, X, admit, admits, known, unique, at}
 use Rattle.model.specs.Record.{Record, hAt, lAt, entryAt, addressOf, dataOf}
 use Rattle.model.specs.Access.{uniqueBit, Unique, Marks, Certain, Write, narrowBit, Narrow, halfStep, EachHalf, mergeHalf, entryStep, settleHalf, Look, holdHalf, Read, insideHalf, Inside, Check, AssertBuilt, Assert}
-use Rattle.model.specs.Published.{Entry, certain, entry, union, look, holding, answer, inside, assertHolds, checkHolds, keeps}
+use Rattle.semantics.specs.Published.{Entry, certain, entry, union, look, holding, answer, inside, assertHolds, checkHolds, keeps}
 use Rattle.model.proofs.MeansLaws.{Means, means-as, means-from, up, one-means, ite-means, not-means, and-means, or-means, variable-means, any-means, placed, place, length-place}
 use Rattle.model.proofs.HalfLaws.{halfOf, half-even, half-odd, half-same, half-X, half-over, half-hold, overIn, scanIn, scanIn-snoc, look-is, unique-more, admits-more, insideHalves, inside-halves}
 
@@ -36,9 +36,9 @@ pub record Halves (σ : ℕ → Bool) (u k : ℕ) (f : (ℕ → Bool) → ℕ �
 pub record EntryMeans (σ : ℕ → Bool) (r : Record) (e : Entry) (w : List ℕ) (s : Store) (ws : List ℕ) : Type 0 where
   pub hard : Means σ 8 (λ τ. e .hard) w s (getD ws 0 0)
   pub soft : Means σ 8 (λ τ. e .soft) w s (getD ws 1 0)
-  pub address : Halves σ 8 (2 * r .n) (λ τ. at (e .address)) w s (addressOf r ws)
-  pub word : Halves σ 8 (2 * r .w) (λ τ. at (e .word)) w s (dataOf r ws)
-  pub sized : length (e .address) ≡ r .n
+  pub address : Halves σ 8 (2 * r .sizes .n) (λ τ. at (e .address)) w s (addressOf r ws)
+  pub word : Halves σ 8 (2 * r .sizes .w) (λ τ. at (e .word)) w s (dataOf r ws)
+  pub sized : length (e .address) ≡ r .sizes .n
 
 abbrev pub noEntry : Entry
 noEntry = record { hard = false; soft = false; address = []; word = [] }
@@ -195,21 +195,21 @@ record Merging (σ : ℕ → Bool) (hm sm : ℕ) (η ξ : Meaning) (k : ℕ) (e 
   soft : Means σ 0 ξ w s sm
   word : Halves σ 8 k (λ τ. at (e .word)) w s ws
 
-module _ {σ : ℕ → Bool} (r : Record) (l : List ℕ) (small : r .n ≤ 8) where
+module _ {σ : ℕ → Bool} (r : Record) (l : List ℕ) (small : r .sizes .n ≤ 8) where
   entry-means : (inside j : ℕ) (ι : Meaning) (e : Entry) (φ : (ℕ → Bool) → ℕ → Pair) (word : List ℕ) (w : List ℕ) (s : Store) → Standard w (s .count) → Means σ 0 ι w s inside → EntryMeans σ r e w s (entryAt r l j)
-      → Word σ 0 (2 * r .w) φ w s word → Builds w s (Word σ 0 (2 * r .w) (λ τ i. overIn (ι τ) e (place (r .n) τ) i (φ τ i))) (entryStep r inside (entryAt r l j) word w s)
+      → Word σ 0 (2 * r .sizes .w) φ w s word → Builds w s (Word σ 0 (2 * r .sizes .w) (λ τ i. overIn (ι τ) e (place (r .sizes .n) τ) i (φ τ i))) (entryStep r inside (entryAt r l j) word w s)
   unfolding entryStep mergeHalf
   entry-means inside j ι e φ word w s S I E R =
-      let X1 = narrow-means (r .n) (addressOf r (entryAt r l j)) inside ι (e .address) (E .sized) small w s S I (E .address) in
+      let X1 = narrow-means (r .sizes .n) (addressOf r (entryAt r l j)) inside ι (e .address) (E .sized) small w s S I (E .address) in
       let E1 = up-entry S X1 E in
       let X2 = and-means (X1 .standard) (X1 .post) (means-from (omega arith) (E1 .hard)) in
       let E2 = up-entry (X1 .standard) X2 E1 in
       let X3 = and-means (X2 .standard) (up (X1 .standard) X2 (X1 .post)) (means-from (omega arith) (E2 .soft)) in
       let E3 = up-entry (X2 .standard) X3 E2 in
       let R3 = up-halves (X2 .standard) X3 (up-halves (X1 .standard) X2 (up-halves S X1 (R .halves))) in
-      let η : Meaning = λ τ. ι τ && admits (e .address) (place (r .n) τ) && e .hard in
-      let ξ : Meaning = λ τ. ι τ && admits (e .address) (place (r .n) τ) && e .soft in
-      let X4 = each-half (Merging σ _ _ η ξ (2 * r .w) e (dataOf r (entryAt r l j))) merging (λ k. mergeHalf _ _ (getD (dataOf r (entryAt r l j)) k 0)) (2 * r .w) 0 0 φ (λ τ i. overIn (ι τ) e (place (r .n) τ) i (φ τ i))
+      let η : Meaning = λ τ. ι τ && admits (e .address) (place (r .sizes .n) τ) && e .hard in
+      let ξ : Meaning = λ τ. ι τ && admits (e .address) (place (r .sizes .n) τ) && e .soft in
+      let X4 = each-half (Merging σ _ _ η ξ (2 * r .sizes .w) e (dataOf r (entryAt r l j))) merging (λ k. mergeHalf _ _ (getD (dataOf r (entryAt r l j)) k 0)) (2 * r .sizes .w) 0 0 φ (λ τ i. overIn (ι τ) e (place (r .sizes .n) τ) i (φ τ i))
       (merge _ _ η ξ) word _ _ (X3 .standard) (record { hard = up (X2 .standard) X3 (X2 .post); soft = X3 .post; word = E3 .word }) (R .size) R3 in
       next-builds X1 _ (next-builds X2 _ (next-builds X3 _ (builds-weaker X4 (λ Q. record { size = Q .0; halves = Q .1 }))))
     where
@@ -217,7 +217,7 @@ module _ {σ : ℕ → Bool} (r : Record) (l : List ℕ) (small : r .n ≤ 8) wh
           → Merging σ hm sm η ξ k e ws w s → Merging σ hm sm η ξ k e ws (x .words) (x .store)
       merging A w s P x S X M = record { hard = up S X (M .hard); soft = up S X (M .soft); word = up-halves S X (M .word) }
 
-      merge : (hm sm : ℕ) (η ξ : Meaning) (k x : ℕ) (w : List ℕ) (s : Store) → k < 2 * r .w → Standard w (s .count) → Merging σ hm sm η ξ (2 * r .w) e (dataOf r (entryAt r l j)) w s
+      merge : (hm sm : ℕ) (η ξ : Meaning) (k x : ℕ) (w : List ℕ) (s : Store) → k < 2 * r .sizes .w → Standard w (s .count) → Merging σ hm sm η ξ (2 * r .sizes .w) e (dataOf r (entryAt r l j)) w s
           → Means σ 0 (λ τ. halfOf k (φ τ)) w s x
           → Builds w s (Means σ 0 (λ τ. halfOf k (λ i. cond (η τ) (at (e .word) i) (cond (ξ τ) (union (at (e .word) i) (φ τ i)) (φ τ i))))) (mergeHalf hm sm (getD (dataOf r (entryAt r l j)) k 0) x w s)
       merge hm sm η ξ k x w s h S M R =
@@ -228,57 +228,57 @@ module _ {σ : ℕ → Bool} (r : Record) (l : List ℕ) (small : r .n ≤ 8) wh
           builds-weaker (next-builds Y1 _ (next-builds Y2 _ Y3)) (λ N. means-as N (λ τ. half-over (η τ) (ξ τ) k (at (e .word)) (φ τ)))
 
   scan-means : (inside : ℕ) (ι : Meaning) (es : List Entry) (w : List ℕ) (s : Store) → Standard w (s .count) → Means σ 0 ι w s inside → EntriesMean σ r es w s l
-      → Builds w s (Word σ 0 (2 * r .w) (λ τ i. scanIn (ι τ) es (place (r .n) τ) i X)) (forEach (λ j. entryStep r inside (entryAt r l j)) 0 (r .entries) (replicate (2 * r .w) 1) w s)
+      → Builds w s (Word σ 0 (2 * r .sizes .w) (λ τ i. scanIn (ι τ) es (place (r .sizes .n) τ) i X)) (forEach (λ j. entryStep r inside (entryAt r l j)) 0 (r .entries) (replicate (2 * r .sizes .w) 1) w s)
   scan-means inside ι es w s S I E =
       builds-weaker
-      (each (λ j. entryStep r inside (entryAt r l j)) (λ j w s word. Word σ 0 (2 * r .w) (λ τ i. scanIn (ι τ) (take j es) (place (r .n) τ) i X) w s word × Means σ 0 ι w s inside × EntriesMean σ r es w s l) (r .entries)
+      (each (λ j. entryStep r inside (entryAt r l j)) (λ j w s word. Word σ 0 (2 * r .sizes .w) (λ τ i. scanIn (ι τ) (take j es) (place (r .sizes .n) τ) i X) w s word × Means σ 0 ι w s inside × EntriesMean σ r es w s l) (r .entries)
       (λ j word w s h S Q.
       let B = entry-means inside j ι (getD es j noEntry) _ word w s S (Q .1) (Q .2 .at j h) (Q .0) in
       builds-weaker B
       (λ N. (
-        record { size = N .size; halves = halves-as (N .halves) (λ τ i. sym (ap (λ (l : List Entry). scanIn (ι τ) l (place (r .n) τ) i X) (take-suc es j noEntry (omega (arith, E .count))) ∙ scanIn-snoc (ι τ) (take j es) (getD es j noEntry) (place (r .n) τ) i X)) },
+        record { size = N .size; halves = halves-as (N .halves) (λ τ i. sym (ap (λ (l : List Entry). scanIn (ι τ) l (place (r .sizes .n) τ) i X) (take-suc es j noEntry (omega (arith, E .count))) ∙ scanIn-snoc (ι τ) (take j es) (getD es j noEntry) (place (r .sizes .n) τ) i X)) },
         up S B (Q .1),
         up-entries S B (Q .2),
       )))
-      (replicate (2 * r .w) 1) w s S (X-word (2 * r .w) S, I, E))
-      (λ Q. record { size = Q .0 .size; halves = halves-as (Q .0 .halves) (λ τ i. ap (λ (l : List Entry). scanIn (ι τ) l (place (r .n) τ) i X) (take-all (r .entries) es (omega (arith, E .count)))) })
+      (replicate (2 * r .sizes .w) 1) w s S (X-word (2 * r .sizes .w) S, I, E))
+      (λ Q. record { size = Q .0 .size; halves = halves-as (Q .0 .halves) (λ τ i. ap (λ (l : List Entry). scanIn (ι τ) l (place (r .sizes .n) τ) i X) (take-all (r .entries) es (omega (arith, E .count)))) })
 
-  pub look-means : (es : List Entry) (a : List ℕ) (qs : List Pair) → length qs ≡ r .n → (w : List ℕ) (s : Store) → Standard w (s .count) → EntriesMean σ r es w s l → Halves σ 8 (2 * r .n) (λ τ. at qs) w s a
-      → Builds w s (Word σ 8 (2 * r .w) (λ τ. look (r .n) es qs)) (Look r l a w s)
+  pub look-means : (es : List Entry) (a : List ℕ) (qs : List Pair) → length qs ≡ r .sizes .n → (w : List ℕ) (s : Store) → Standard w (s .count) → EntriesMean σ r es w s l → Halves σ 8 (2 * r .sizes .n) (λ τ. at qs) w s a
+      → Builds w s (Word σ 8 (2 * r .sizes .w) (λ τ. look (r .sizes .n) es qs)) (Look r l a w s)
   unfolding Look settleHalf
   look-means es a qs len w s S E A =
-      let X1 = narrow-means (r .n) a 1 (λ τ. true) qs len small w s S (one-means 0 (omega arith) S) A in
-      let X2 = scan-means _ (λ τ. admits qs (place (r .n) τ)) es _ _ (X1 .standard) (X1 .post) (up-entries S X1 E) in
-      let X3 = each-half (λ w s. Means σ 0 (λ τ. admits qs (place (r .n) τ)) w s _) (λ A w s P x S X M. up S X M) (λ k. settleHalf _) (2 * r .w) 0 8
-      (λ τ i. scanIn (admits qs (place (r .n) τ)) es (place (r .n) τ) i X) (λ τ. look (r .n) es qs) (λ j x w s h S I R. settle j x _ w s S I R) _ _ _ (X2 .standard) (up (X1 .standard) X2 (X1 .post)) (X2 .post .size) (X2 .post .halves) in
+      let X1 = narrow-means (r .sizes .n) a 1 (λ τ. true) qs len small w s S (one-means 0 (omega arith) S) A in
+      let X2 = scan-means _ (λ τ. admits qs (place (r .sizes .n) τ)) es _ _ (X1 .standard) (X1 .post) (up-entries S X1 E) in
+      let X3 = each-half (λ w s. Means σ 0 (λ τ. admits qs (place (r .sizes .n) τ)) w s _) (λ A w s P x S X M. up S X M) (λ k. settleHalf _) (2 * r .sizes .w) 0 8
+      (λ τ i. scanIn (admits qs (place (r .sizes .n) τ)) es (place (r .sizes .n) τ) i X) (λ τ. look (r .sizes .n) es qs) (λ j x w s h S I R. settle j x _ w s S I R) _ _ _ (X2 .standard) (up (X1 .standard) X2 (X1 .post)) (X2 .post .size) (X2 .post .halves) in
       next-builds X1 _ (next-builds X2 _ (builds-weaker X3 (λ Q. record { size = Q .0; halves = Q .1 })))
     where
-      settle : (j x inside : ℕ) (w : List ℕ) (s : Store) → Standard w (s .count) → Means σ 0 (λ τ. admits qs (place (r .n) τ)) w s inside
-          → Means σ 0 (λ τ. halfOf j (λ i. scanIn (admits qs (place (r .n) τ)) es (place (r .n) τ) i X)) w s x → Builds w s (Means σ 8 (λ τ. halfOf j (look (r .n) es qs))) (settleHalf inside x w s)
+      settle : (j x inside : ℕ) (w : List ℕ) (s : Store) → Standard w (s .count) → Means σ 0 (λ τ. admits qs (place (r .sizes .n) τ)) w s inside
+          → Means σ 0 (λ τ. halfOf j (λ i. scanIn (admits qs (place (r .sizes .n) τ)) es (place (r .sizes .n) τ) i X)) w s x → Builds w s (Means σ 8 (λ τ. halfOf j (look (r .sizes .n) es qs))) (settleHalf inside x w s)
       settle j x inside w s S I R =
           let Y1 = and-means S I R in
           let Y2 = any-means (Y1 .standard) (Y1 .post) in
-          builds-weaker (next-builds Y1 _ Y2) (λ N. means-as N (λ τ. look-is (r .n) small es qs j τ))
+          builds-weaker (next-builds Y1 _ Y2) (λ N. means-as N (λ τ. look-is (r .sizes .n) small es qs j τ))
 
   -- each half of a look beside the same half of the word that the port holds
-  hold-means : (e : Pair) (f g : ℕ → Pair) (eh held-s j x : ℕ) (held : List ℕ) (w : List ℕ) (s : Store) → j < 2 * r .w → Standard w (s .count) → Means σ 8 (λ τ. e .h && e .l) w s held-s → Means σ 8 (λ τ. e .h) w s eh
-      → Halves σ 8 (2 * r .w) (λ τ. g) w s held → Means σ 8 (λ τ. halfOf j f) w s x → Builds w s (Means σ 8 (λ τ. halfOf j (λ i. holding e (f i) (g i)))) (holdHalf held-s eh (getD held j 0) x w s)
+  hold-means : (e : Pair) (f g : ℕ → Pair) (eh held-s j x : ℕ) (held : List ℕ) (w : List ℕ) (s : Store) → j < 2 * r .sizes .w → Standard w (s .count) → Means σ 8 (λ τ. e .h && e .l) w s held-s → Means σ 8 (λ τ. e .h) w s eh
+      → Halves σ 8 (2 * r .sizes .w) (λ τ. g) w s held → Means σ 8 (λ τ. halfOf j f) w s x → Builds w s (Means σ 8 (λ τ. halfOf j (λ i. holding e (f i) (g i)))) (holdHalf held-s eh (getD held j 0) x w s)
   unfolding holdHalf
   hold-means e f g eh held-s j x held w s h S B H G R =
       let Z1 = ite-means S B R H in
       let Z2 = ite-means (Z1 .standard) (Z1 .post) (up S Z1 R) (up S Z1 (G .half j h)) in
       builds-weaker (next-builds Z1 _ Z2) (λ N. means-as N (λ τ. half-hold e j f g))
 
-  pub read-means : (es : List Entry) (eh el : ℕ) (held a : List ℕ) (e : Pair) (g : ℕ → Pair) (qs : List Pair) → length qs ≡ r .n → (w : List ℕ) (s : Store) → Standard w (s .count) → EntriesMean σ r es w s l
-      → Means σ 8 (λ τ. e .h) w s eh → Means σ 8 (λ τ. e .l) w s el → Halves σ 8 (2 * r .w) (λ τ. g) w s held → Halves σ 8 (2 * r .n) (λ τ. at qs) w s a
-      → Builds w s (Word σ 8 (2 * r .w) (λ τ. answer (r .n) es g e qs)) (Read r l held eh el a w s)
+  pub read-means : (es : List Entry) (eh el : ℕ) (held a : List ℕ) (e : Pair) (g : ℕ → Pair) (qs : List Pair) → length qs ≡ r .sizes .n → (w : List ℕ) (s : Store) → Standard w (s .count) → EntriesMean σ r es w s l
+      → Means σ 8 (λ τ. e .h) w s eh → Means σ 8 (λ τ. e .l) w s el → Halves σ 8 (2 * r .sizes .w) (λ τ. g) w s held → Halves σ 8 (2 * r .sizes .n) (λ τ. at qs) w s a
+      → Builds w s (Word σ 8 (2 * r .sizes .w) (λ τ. answer (r .sizes) es g e qs)) (Read r l held eh el a w s)
   unfolding Read
   read-means es eh el held a e g qs len w s S E H L G A =
       let X1 = look-means es a qs len w s S E A in
       let X2 = and-means (X1 .standard) (up S X1 H) (up S X1 L) in
-      let X3 = each-half (λ w s. Means σ 8 (λ τ. e .h && e .l) w s _ × Means σ 8 (λ τ. e .h) w s eh × Halves σ 8 (2 * r .w) (λ τ. g) w s held) (λ A w s P x S X M. (up S X (M .0), up S X (M .1), up-halves S X (M .2)))
-      (λ k. holdHalf _ eh (getD held k 0)) (2 * r .w) 8 8 (λ τ. look (r .n) es qs) (λ τ. answer (r .n) es g e qs)
-      (λ j x w s h S I R. hold-means e (look (r .n) es qs) g eh _ j x held w s h S (I .0) (I .1) (I .2) R) _ _ _ (X2 .standard)
+      let X3 = each-half (λ w s. Means σ 8 (λ τ. e .h && e .l) w s _ × Means σ 8 (λ τ. e .h) w s eh × Halves σ 8 (2 * r .sizes .w) (λ τ. g) w s held) (λ A w s P x S X M. (up S X (M .0), up S X (M .1), up-halves S X (M .2)))
+      (λ k. holdHalf _ eh (getD held k 0)) (2 * r .sizes .w) 8 8 (λ τ. look (r .sizes .n) es qs) (λ τ. answer (r .sizes) es g e qs)
+      (λ j x w s h S I R. hold-means e (look (r .sizes .n) es qs) g eh _ j x held w s h S (I .0) (I .1) (I .2) R) _ _ _ (X2 .standard)
       (X2 .post, up (X1 .standard) X2 (up S X1 H), up-halves (X1 .standard) X2 (up-halves S X1 G)) (X1 .post .size) (up-halves (X1 .standard) X2 (X1 .post .halves)) in
       next-builds X1 _ (next-builds X2 _ (builds-weaker X3 (λ Q. record { size = Q .0; halves = Q .1 })))
 
@@ -304,24 +304,24 @@ pub record AssertBuiltMean (σ : ℕ → Bool) (α β κ : Bool) (w : List ℕ) 
   pub notB : Means σ 8 (λ τ. β) w s (q .notB)
   pub keep : Means σ 8 (λ τ. κ) w s (q .keep)
 
-module _ {σ : ℕ → Bool} (r : Record) (l : List ℕ) (small : r .n ≤ 8) (es : List Entry) (b : ℕ) (β κ : Bool) (a d : List ℕ) (qs ds : List Pair) (len : length qs ≡ r .n) (w : List ℕ) (s : Store)
-    (S : Standard w (s .count)) (E : EntriesMean σ r es w s l) (B : Means σ 8 (λ τ. β) w s b) (A : Halves σ 8 (2 * r .n) (λ τ. at qs) w s a) (D : Halves σ 8 (2 * r .w) (λ τ. at ds) w s d) where
-  pub check-means : Means σ 8 (λ τ. κ) w s (r .checked) → Builds w s (Means σ 8 (λ τ. κ && checkHolds (r .n) (r .w) es β qs ds)) (Check r l b a d w s)
+module _ {σ : ℕ → Bool} (r : Record) (l : List ℕ) (small : r .sizes .n ≤ 8) (es : List Entry) (b : ℕ) (β κ : Bool) (a d : List ℕ) (qs ds : List Pair) (len : length qs ≡ r .sizes .n) (w : List ℕ) (s : Store)
+    (S : Standard w (s .count)) (E : EntriesMean σ r es w s l) (B : Means σ 8 (λ τ. β) w s b) (A : Halves σ 8 (2 * r .sizes .n) (λ τ. at qs) w s a) (D : Halves σ 8 (2 * r .sizes .w) (λ τ. at ds) w s d) where
+  pub check-means : Means σ 8 (λ τ. κ) w s (r .checked) → Builds w s (Means σ 8 (λ τ. κ && checkHolds (r .sizes) es β qs ds)) (Check r l b a d w s)
   unfolding Check
   check-means K =
       let X1 = look-means r l small es a qs len w s S E A in
-      let X2 = inside-means (r .w) _ d (look (r .n) es qs) (at ds) _ _ (X1 .standard) (X1 .post .halves) (up-halves S X1 D) in
+      let X2 = inside-means (r .sizes .w) _ d (look (r .sizes .n) es qs) (at ds) _ _ (X1 .standard) (X1 .post .halves) (up-halves S X1 D) in
       let X3 = not-means (X2 .standard) (up (X1 .standard) X2 (up S X1 B)) in
       let X4 = or-means (X3 .standard) (X3 .post) (up (X2 .standard) X3 (X2 .post)) in
       let X5 = and-means (X4 .standard) (up (X3 .standard) X4 (up (X2 .standard) X3 (up (X1 .standard) X2 (up S X1 K)))) (X4 .post) in
       next-builds X1 _ (next-builds X2 _ (next-builds X3 _ (next-builds X4 _ X5)))
 
   pub assert-means : Means σ 8 (λ τ. κ) w s (r .asserted)
-      → Builds w s (AssertBuiltMean σ (κ && assertHolds (r .n) (r .w) es β qs ds) (not β) (keeps (r .n) (r .w) es β qs ds)) (Assert r l b a d w s)
+      → Builds w s (AssertBuiltMean σ (κ && assertHolds (r .sizes) es β qs ds) (not β) (keeps (r .sizes) es β qs ds)) (Assert r l b a d w s)
   unfolding Assert
   assert-means K =
       let X1 = look-means r l small es a qs len w s S E A in
-      let X2 = inside-means (r .w) d _ (at ds) (look (r .n) es qs) _ _ (X1 .standard) (up-halves S X1 D) (X1 .post .halves) in
+      let X2 = inside-means (r .sizes .w) d _ (at ds) (look (r .sizes .n) es qs) _ _ (X1 .standard) (up-halves S X1 D) (X1 .post .halves) in
       let S2 = X2 .standard in
       let X3 = not-means S2 (up (X1 .standard) X2 (up S X1 B)) in
       let S3 = X3 .standard in
@@ -331,7 +331,7 @@ module _ {σ : ℕ → Bool} (r : Record) (l : List ℕ) (small : r .n ≤ 8) (e
       let S5 = X5 .standard in
       let D5 = up-halves S4 X5 (up-halves S3 X4 (up-halves S2 X3 (up-halves (X1 .standard) X2 (up-halves S X1 D)))) in
       let R5 = up-halves S4 X5 (up-halves S3 X4 (up-halves S2 X3 (up-halves (X1 .standard) X2 (X1 .post .halves)))) in
-      let X6 = inside-means (r .w) _ d (look (r .n) es qs) (at ds) _ _ S5 R5 D5 in
+      let X6 = inside-means (r .sizes .w) _ d (look (r .sizes .n) es qs) (at ds) _ _ S5 R5 D5 in
       let S6 = X6 .standard in
       let X7 = and-means S6 (up S5 X6 (up S4 X5 (up S3 X4 (up S2 X3 (X2 .post))))) (X6 .post) in
       let S7 = X7 .standard in

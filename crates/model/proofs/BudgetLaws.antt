@@ -10,23 +10,26 @@ use Rattle.conditions.specs.declared.Store.{Store}
 use Rattle.conditions.specs.Build.{Outcome}
 use Rattle.conditions.specs.Value.{value}
 use Rattle.conditions.specs.Assignment.{bitAt}
+use Rattle.semantics.specs.declared.Sizes.{Sizes}
 use Rattle.model.specs.Record.{listCapacity}
 use Rattle.model.specs.Rows.{spaceFor}
-use Rattle.model.specs.Step.{State, Access, write, read, assert, check, evaluate, variable, ite, conditions, Call, access, nodeCall, Given, refused, isRefused, Result, refusal, Finish, full, short, gives, closed, unlessFull, finishAccess, finishNode, finish, turnedDownBy, step, run}
+use Rattle.model.specs.Step.{State, Access, write, read, assert, check, evaluate, variable, ite, conditions, Call, access, nodeCall, upkeep, Given, refused, isRefused, Result, refusal, Finish, full, short, gives, closed, unlessFull, finishAccess, finishNode, finish, turnedDownBy, step, run}
 use Rattle.model.specs.Claims.{argument, Fed, fed, under, events}
 use Rattle.model.specs.Meanings.{entryValues, addressArgument, wordArgument}
-use Rattle.model.specs.Published.{Entry, keeps}
-use Rattle.model.specs.Held.{entriesAfter}
-use Rattle.model.specs.Frames.{RefusalLeaves, SuccessLeaves}
-use Rattle.model.specs.Count.{SomeExactly, addsEntry, newEntries, entryCountFrom, entryCount, entriesAfterAll, CountExactly, BudgetExactly}
+use Rattle.semantics.specs.Published.{Entry, keeps}
+use Rattle.semantics.specs.Held.{entriesAfter}
+use Rattle.model.specs.Frames.{SizesStay}
+use Rattle.model.specs.Count.{SomeExactly, newEntries, entryCountFrom, entryCount, CountExactly, BudgetExactly}
 use Rattle.model.proofs.FinishLaws.{of-program, of-write, of-assert}
 use Rattle.model.proofs.FactLaws.{space-room, write-facts}
-use Rattle.model.proofs.FrameLaws.{rows-plain, refusal-leaves, success-leaves}
+use Rattle.model.proofs.FrameLaws.{rows-plain, sizes-stay}
 use Rattle.model.proofs.Demand2.{needs-where}
 use Rattle.model.proofs.IdleLaws.{not-idle-may}
 use Rattle.model.proofs.SomeLaws.{some-exactly}
 use Rattle.model.proofs.AgreeLaws.{Agrees, agrees-values, run-agrees}
-use Rattle.model.proofs.CountLaws.{refused-number, not-kept-adds, new-as, count-exactly}
+use Rattle.semantics.specs.Count.{addsAt, entriesAfterAll}
+use Rattle.semantics.proofs.CountLaws.{not-kept-adds}
+use Rattle.model.proofs.CountLaws.{refused-number, new-as, count-exactly}
 
 -- the entries that a state's list takes
 abbrev takes : State → ℕ
@@ -34,8 +37,9 @@ takes s = listCapacity (s .rec) (s .list)
 
 -- a call that would add an entry, under some assignment
 abbrev Adds : Call → State → Type 0
-Adds (access c) s = (k : ℕ) × (k < 2 ^ 64) × (addsEntry (s .rec .n) (s .rec .w) (entryValues (bitAt k) s) (argument (bitAt k) s c) ≡ true)
+Adds (access c) s = (k : ℕ) × (k < 2 ^ 64) × (addsAt (s .rec .sizes) (entryValues (bitAt k) s) (argument (bitAt k) s c) 0 ≡ true)
 Adds (nodeCall c) s = ⊥
+Adds (upkeep c) s = absurd c
 
 -- what a call comes to: its entries are within what the list takes; and where 8 refuses it they are all that it takes, and it would add one
 record Within (c : Call) (s : State) (x : Result) : Type 0 where
@@ -66,8 +70,8 @@ module _ (c : Call) (s : State) where
   program-within x k h = of-program (Stays c s) x k (λ f. full-within _) (λ f. h)
 
 -- an assert that its look does not keep
-not-kept : (b : ℕ) (a d : List ℕ) (s : State) → (k : ℕ) × (k < 2 ^ 64) × (keeps (s .rec .n) (s .rec .w) (entryValues (bitAt k) s) (value (s .words) (bitAt k) b) (addressArgument (bitAt k) s a) (wordArgument (bitAt k) s d) ≡ false) → Adds (access (assert b a d)) s
-not-kept b a d s m = (m .0, m .1, not-kept-adds (s .rec .n) (s .rec .w) (entryValues (bitAt (m .0)) s) (value (s .words) (bitAt (m .0)) b) (addressArgument (bitAt (m .0)) s a) (wordArgument (bitAt (m .0)) s d) (m .2))
+not-kept : (b : ℕ) (a d : List ℕ) (s : State) → (k : ℕ) × (k < 2 ^ 64) × (keeps (s .rec .sizes) (entryValues (bitAt k) s) (value (s .words) (bitAt k) b) (addressArgument (bitAt k) s a) (wordArgument (bitAt k) s d) ≡ false) → Adds (access (assert b a d)) s
+not-kept b a d s m = (m .0, m .1, not-kept-adds (s .rec .sizes) (entryValues (bitAt (m .0)) s) (value (s .words) (bitAt (m .0)) b) (addressArgument (bitAt (m .0)) s a) (wordArgument (bitAt (m .0)) s d) (m .2))
 
 finish-within : (c : Call) (s : State) → refusal c s ≡ 0 → Stays c s (finish c s)
 unfolding finishAccess finishNode
@@ -83,6 +87,7 @@ finish-within (nodeCall (evaluate f a)) s q = done-within (nodeCall (evaluate f 
 finish-within (nodeCall (variable v)) s q = program-within (nodeCall (variable v)) s _ _ (done-within (nodeCall (variable v)) s _ _ (λ h. h))
 finish-within (nodeCall (ite f g h)) s q = program-within (nodeCall (ite f g h)) s _ _ (done-within (nodeCall (ite f g h)) s _ _ (λ h. h))
 finish-within (nodeCall (conditions t)) s q = program-within (nodeCall (conditions t)) s _ _ (done-within (nodeCall (conditions t)) s _ _ (λ h. h))
+finish-within (upkeep c) s q = absurd c
 
 step-within : (c : Call) (s : State) → Within c s (step c s)
 unfolding step
@@ -94,10 +99,8 @@ step-within c s = go (refusal c s) refl
 
 -- no call changes how many it takes
 step-takes : (c : Call) (s : State) → takes (step c s .after) ≡ takes s
-unfolding listCapacity RefusalLeaves SuccessLeaves
-step-takes c s =
-    split (isRefused (step c s .answer)) (λ r. let k = refused-number (step c s .answer) r in ap takes (refusal-leaves c s (k .0) (k .1)))
-    (λ n. let E = success-leaves c s n in rw (E .len, E .n, E .w))
+unfolding listCapacity SizesStay
+step-takes c s = let E = sizes-stay c s in rw (E .len, E .sizes)
 
 run-within : (cs : List Call) (s : State) → s .rec .entries ≤ takes s → (takes (run cs s) ≡ takes s) × (run cs s .rec .entries ≤ takes s)
 unfolding run
@@ -107,25 +110,18 @@ run-within (c ∷ cs) s h =
     let R = run-within cs (step c s .after) (omega (arith, t, step-within c s .below h)) in
     (R .0 ∙ t, omega (arith, R .1, t))
 
--- one access more
-count-more : (n w : ℕ) (list : (ℕ → Bool) → List Entry) (es : List Fed) (e : Fed) → entryCountFrom n w list (es ++ (e ∷ [])) ≡ entryCountFrom n w list es + newEntries n w (λ φ. entriesAfterAll (list φ) (under φ es)) e
-count-more n w list [] e = omega arith
-count-more n w list (x ∷ es) e = let R = count-more n w (λ φ. entriesAfter (list φ) (x φ)) es e in omega (arith, R)
-
 pub budget-exactly : BudgetExactly
-unfolding BudgetExactly CountExactly SomeExactly
+unfolding BudgetExactly SomeExactly
 budget-exactly s B cs =
-    let C = count-exactly s B cs in
     let R = run-within cs s (omega (arith, B .entries)) in
-    record { within = omega (arith, C, R .1); eight = λ c e. more c e C R }
+    record { within = R .1; eight = λ c e. more c e (R .0) }
   where
-    more : (c : Access) → step (access c) (run cs s) .answer ≡ refused 8 → run cs s .rec .entries ≡ entryCount (s .rec .n) (s .rec .w) (fed s cs) → (takes (run cs s) ≡ takes s) × (run cs s .rec .entries ≤ takes s)
-        → takes s < entryCount (s .rec .n) (s .rec .w) (fed s cs ++ ((λ φ. argument φ (run cs s) c) ∷ []))
-    more c e C R =
+    more : (c : Access) → step (access c) (run cs s) .answer ≡ refused 8 → takes (run cs s) ≡ takes s
+        → takes s < run cs s .rec .entries + newEntries (s .rec .sizes) (λ φ. entriesAfterAll [] (events φ s cs)) (λ φ. argument φ (run cs s) c)
+    more c e R =
         let t = run cs s in
         let A = run-agrees s B cs 0 (omega arith) in
         let f : Fed = λ φ. argument φ t c in
-        let one : newEntries (t .rec .n) (t .rec .w) (λ φ. entryValues φ t) f ≡ 1 = ap (λ (b : Bool). cond b 1 0) (some-exactly (λ φ. addsEntry (t .rec .n) (t .rec .w) (entryValues φ t) (f φ)) .1 (step-within (access c) t .eight e .1)) in
-        let same = new-as (t .rec .n) (t .rec .w) (s .rec .n) (s .rec .w) (λ φ. entryValues φ t) (λ φ. entriesAfterAll [] (events φ s cs)) f (A .n-is) (A .w-is) (λ a small. agrees-values (run-agrees s B cs a small)) in
-        let M = count-more (s .rec .n) (s .rec .w) (λ φ. []) (fed s cs) f in
-        omega (arith, C, R .0, step-within (access c) t .eight e .0, one, same, M)
+        let one : newEntries (t .rec .sizes) (λ φ. entryValues φ t) f ≡ 1 = ap (λ (b : Bool). cond b 1 0 + 0) (some-exactly (λ φ. addsAt (t .rec .sizes) (entryValues φ t) (f φ) 0) .1 (step-within (access c) t .eight e .1)) in
+        let same = new-as (t .rec .sizes) (s .rec .sizes) (λ φ. entryValues φ t) (λ φ. entriesAfterAll [] (events φ s cs)) f (A .sizes-are) (λ a small. agrees-values (run-agrees s B cs a small)) in
+        omega (arith, R, step-within (access c) t .eight e .0, one, same)

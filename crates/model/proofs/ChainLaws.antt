@@ -4,18 +4,18 @@ use mathlib.Core.Logic.{_↔_}
 use mathlib.Core.Bool.{Bool, true≢false}
 use mathlib.Core.List.{List, [], _∷_}
 use Prim.Native.Nat.{ℕ, zero, suc, _^_, _<_}
-use lib.Dec.{T}
-use Rattle.conditions.specs.Value.{value}
 use Rattle.conditions.specs.Assignment.{bitAt}
+use Rattle.semantics.specs.declared.Sizes.{Sizes}
 use Rattle.model.specs.Record.{Record}
 use Rattle.model.specs.Step.{State, Call, accepted, Answer, done, Result, isRefused, run, Fresh, fresh}
-use Rattle.model.specs.Array.{Event, Run, observed, Returns, Allowed, lastMemory}
-use Rattle.model.specs.Claims.{event, Fed, fed, under, BitMay, May, Begins, Exactly, Demand3, FromFresh, HeldMay}
-use Rattle.model.specs.Chain.{numbered, freshed, Link, Chained, lastState, fedOf, eventsOf, MayBe, ExactlyRuns, ChainExactly}
+use Rattle.semantics.specs.Array.{Event}
+use Rattle.semantics.specs.Claims.{ExactlyAsRuns}
+use Rattle.semantics.proofs.RunLaws.{told-along}
+use Rattle.model.specs.Claims.{event, Fed, fed, under, events, BitMay, May, HeldMay, CheckHolds, told, Begins, Exactly, Demand3, FromFresh}
+use Rattle.model.specs.Chain.{numbered, freshed, Link, Chained, lastState, fedOf, MayBe, ExactlyRuns, ChainExactly}
 use Rattle.model.specs.Count.{entryCount, CountExactly, ChainCount}
 use Rattle.model.proofs.Demand3.{demand3, from-fresh}
 use Rattle.model.proofs.CountLaws.{count-exactly}
-use Rattle.model.specs.Pairs.{bit}
 
 pub calls : List Link → List Call
 calls [] = []
@@ -43,18 +43,19 @@ pub chain-from : (s : State) → Begins s → (ks : List Link) → Chained s ks 
 unfolding Demand3
 chain-from s B ks C a h =
     let φ = bitAt a in
-    let X = demand3 s B (calls ks) a h in
-    let E = ap (under φ) (chain-fed s ks C) in
-    record {
-      bits = λ j i m b.
-          subst (λ (P : Type 0). P ↔ ((r : Run (s .rec .w) (eventsOf φ s ks)) × Returns (observed (s .rec .w) (eventsOf φ s ks) r j) i b)) (chain-may φ s ks j i b C)
-          (subst (λ (es : List Event). May φ s (calls ks) j i b ↔ ((r : Run (s .rec .w) es) × Returns (observed (s .rec .w) es r j) i b)) E (X .bits j i m b));
-      holds = λ p i l m b.
-          subst (λ (t : State). HeldMay φ t p i b ↔ ((r : Run (s .rec .w) (eventsOf φ s ks)) × (bit (lastMemory (s .rec .w) (eventsOf φ s ks) r .ports p) i ≡ b))) (chain-run s ks C)
-          (subst (λ (es : List Event). HeldMay φ (run (calls ks) s) p i b ↔ ((r : Run (s .rec .w) es) × (bit (lastMemory (s .rec .w) es r .ports p) i ≡ b))) E (X .holds p i l m b));
-      checking = subst (λ (t : State). T (value (t .words) φ (t .rec .checked)) ↔ ((r : Run (s .rec .w) (eventsOf φ s ks)) (j : ℕ) → Allowed (observed (s .rec .w) (eventsOf φ s ks) r j))) (chain-run s ks C)
-          (subst (λ (es : List Event). T (value (run (calls ks) s .words) φ (run (calls ks) s .rec .checked)) ↔ ((r : Run (s .rec .w) es) (j : ℕ) → Allowed (observed (s .rec .w) es r j))) E (X .checking));
-    }
+    let z = s .rec .sizes in
+    let last = chain-run s ks C in
+    subst (λ (es : List Event). ExactlyAsRuns z es (told φ (MayBe φ ks) (lastState s ks))) (ap (under φ) (chain-fed s ks C))
+    (told-along z (events φ s (calls ks)) (told φ (May φ s (calls ks)) (run (calls ks) s)) (told φ (MayBe φ ks) (lastState s ks))
+    (record {
+      bits = λ j i m b. same (chain-may φ s ks j i b C);
+      holds = λ p i l m b. same (ap (λ (t : State). HeldMay φ t p i b) last);
+      checking = same (ap (CheckHolds φ) last);
+    })
+    (demand3 s B (calls ks) a h))
+  where
+    same : {P Q : Type 0} → P ≡ Q → P ↔ Q
+    same {P} {Q} e = (λ x. subst (λ (R : Type 0). R) e x, λ x. subst (λ (R : Type 0). R) (sym e) x)
 
 -- an answer numbered 0 is the accepted one
 pub accepted-zero : (k : ℕ) → numbered k ≡ done accepted → k ≡ 0
@@ -62,19 +63,19 @@ accepted-zero zero e = refl
 accepted-zero (suc k) e = absurd (true≢false (ap isRefused e))
 
 -- an accepted Fresh leaves a state in which lists of calls may begin
-pub fresh-begins : (given : Record) (n w : ℕ) (ws ps : List ℕ) (s : State) → freshed (fresh given n w ws ps) ≡ (done accepted, s .rec, s .words, s .ports) → Begins s
+pub fresh-begins : (given : Record) (z : Sizes) (ws ps : List ℕ) (s : State) → freshed (fresh given z ws ps) ≡ (done accepted, s .rec, s .words, s .ports) → Begins s
 unfolding FromFresh
-fresh-begins given n w ws ps s e =
-    let x = fresh given n w ws ps in
-    let z = accepted-zero (x .answer) (ap (λ (t : Answer × Record × List ℕ × List ℕ). t .0) e) in
-    subst (λ (t : Answer × Record × List ℕ × List ℕ). Begins (record { rec = t .1; words = t .2; list = s .list; ports = t .3 })) e (from-fresh given n w ws ps (s .list) z)
+fresh-begins given z ws ps s e =
+    let x = fresh given z ws ps in
+    let e0 = accepted-zero (x .answer) (ap (λ (t : Answer × Record × List ℕ × List ℕ). t .0) e) in
+    subst (λ (t : Answer × Record × List ℕ × List ℕ). Begins (record { rec = t .1; words = t .2; list = s .list; ports = t .3 })) e (from-fresh given z ws ps (s .list) e0)
 
 pub chain-exactly : ChainExactly
 unfolding ChainExactly
-chain-exactly given n w ws ps s e ks C a h = chain-from s (fresh-begins given n w ws ps s e) ks C a h
+chain-exactly given z ws ps s e ks C a h = chain-from s (fresh-begins given z ws ps s e) ks C a h
 
 -- and the count of its entries
 pub chain-count : ChainCount
 unfolding ChainCount CountExactly
-chain-count given n w ws ps s e ks C =
-    ap (λ (t : State). t .rec .entries) (sym (chain-run s ks C)) ∙ count-exactly s (fresh-begins given n w ws ps s e) (calls ks) ∙ ap (λ (es : List Fed). entryCount (s .rec .n) (s .rec .w) es) (chain-fed s ks C)
+chain-count given z ws ps s e ks C =
+    ap (λ (t : State). t .rec .entries) (sym (chain-run s ks C)) ∙ count-exactly s (fresh-begins given z ws ps s e) (calls ks) ∙ ap (λ (es : List Fed). entryCount (s .rec .sizes) es) (chain-fed s ks C)

@@ -17,16 +17,16 @@ use Rattle.conditions.specs.Assignment.{bitAt}
 use Rattle.conditions.specs.Meaning.{Builds}
 use Rattle.conditions.proofs.Promises.{ite-builds, variable-builds}
 use Rattle.formulas.specs.Language.{Tree, listed}
-use Rattle.model.specs.Pairs.{Pair, admit}
+use Rattle.semantics.specs.Pairs.{Pair, admit}
 use Rattle.model.specs.Record.{Record}
 use Rattle.model.specs.Access.{Marks, AssertBuilt}
 use Rattle.model.specs.Formula.{Triple, Triples}
 use Rattle.model.specs.Step.{State, write, read, assert, check, evaluate, variable, ite, conditions, Call, access, nodeCall, place, idle, filled, entered, kept, accepted, valued, node, triples, done, isRefused, Result, refusal, Finish, full, gives, closed, unlessFull, begin, grown, withEntry, withAssertCondition, assertFirst, entryBuilt, enter, isIdle, finishAccess, finishNode, finish, turnedDownBy, step, writeBuilt}
-use Rattle.model.specs.Published.{answer, assertHolds, checkHolds, keeps, control}
+use Rattle.semantics.specs.Published.{answer, assertHolds, checkHolds, keeps, control}
 use Rattle.model.specs.Claims.{pairAt}
 use Rattle.model.specs.Meanings.{entryValues, addressArgument, wordArgument, Enters, Demand2, portValue}
 use Rattle.model.specs.Table.{MemoryFacts, ReadFacts}
-use Rattle.model.proofs.PairLaws.{T→eq, eq→T}
+use Rattle.semantics.proofs.PairLaws.{T→eq, eq→T}
 use Rattle.model.proofs.MeansLaws.{Means, up, near-self}
 use Rattle.model.proofs.AccessLaws.{AssertBuiltMean}
 use Rattle.model.proofs.TerminalLaws.{somewhere-false, idle-off}
@@ -114,7 +114,7 @@ module _ (a : ℕ) (small : a < 2 ^ 64) (s : State) where
       let e : k ≡ r .entries
       = idle-or-entered s c x d n (λ i z. absurd (true≢false (ap isLeftOut (rw z at q))))
       (λ i z. let y : done (place k) ≡ done (place (r .entries)) = sym q ∙ ap (λ (z : Result). z .answer) z in cc) in
-      (e, holds-enters φ s _ (pairAt φ (s .words) c 0) x d (F .same-w) (rw q at (F .holds)))
+      (e, holds-enters φ s _ (pairAt φ (s .words) c 0) x d (F .sizes) (rw q at (F .holds)))
 
   write-idles : (c x d : List ℕ) → step (access (write c x d)) s .answer ≡ done idle → (pairAt φ (s .words) c 0 .h ≡ false) × (entryValues φ (step (access (write c x d)) s .after) ≡ entryValues φ s)
   write-idles c x d q =
@@ -126,7 +126,7 @@ module _ (a : ℕ) (small : a < 2 ^ 64) (s : State) where
     after = step (access (read p e x out)) s .after
 
     abbrev word : ℕ → Pair
-    word = answer (r .n) (entryValues φ s) (portValue φ s p) (pairAt φ (s .words) e 0) (addressArgument φ s x)
+    word = answer (r .sizes) (entryValues φ s) (portValue φ s p) (pairAt φ (s .words) e 0) (addressArgument φ s x)
 
     read-named : ReadFacts s p e x out
     read-named = read-facts s p e x out (acts (access (read p e x out)) s (ap isRefused q) .0)
@@ -137,25 +137,25 @@ module _ (a : ℕ) (small : a < 2 ^ 64) (s : State) where
     ports-named : PortsMean φ s (portValue φ s)
     ports-named = record { words = λ n l. port-halves φ s n l (read-named .memory .standard) (read-named .ports) }
 
-    read-fills : (i : ℕ) → i < r .w → pairAt φ (after .words) ws i ≡ word i
+    read-fills : (i : ℕ) → i < r .sizes .w → pairAt φ (after .words) ws i ≡ word i
     read-fills i l = same-admit _ _ (λ b. rw q at (read-follows .bits ports-named i l b))
 
-    read-held : length (s .ports) ≡ 128 → (n i : ℕ) → n < 4 → i < r .w → portValue φ after n i ≡ cond (eqb n p) word (portValue φ s n) i
+    read-held : length (s .ports) ≡ 128 → (n i : ℕ) → n < 4 → i < r .sizes .w → portValue φ after n i ≡ cond (eqb n p) word (portValue φ s n) i
     read-held long n i l m =
         let P : PortsMean φ after _ = rw q at (read-follows .ports long ports-named) in
-        port-is P n i l (omega (arith, m, read-follows .same-w))
+        port-is P n i l (rw (read-follows .sizes) m)
 
     read-stays : entryValues φ after ≡ entryValues φ s
-    read-stays = holds-stays φ s _ _ _ (read-follows .same-w) (rw q at (read-follows .holds))
+    read-stays = holds-stays φ s _ _ _ (read-follows .sizes) (rw q at (read-follows .holds))
 
   check-stays : (b : ℕ) (x d : List ℕ) → step (access (check b x d)) s .answer ≡ done accepted → entryValues φ (step (access (check b x d)) s .after) ≡ entryValues φ s
   check-stays b x d q =
       let F = step-follows a small s (held φ s) (values-held (check-facts s b x d (acts (access (check b x d)) s (ap isRefused q) .0) .memory)) (access (check b x d)) in
-      holds-stays φ s _ _ _ (F .same-w) (rw q at (F .holds))
+      holds-stays φ s _ _ _ (F .sizes) (rw q at (F .holds))
 
   check-condition : (b : ℕ) (x d : List ℕ) → step (access (check b x d)) s .answer ≡ done accepted
       → value (step (access (check b x d)) s .after .words) φ (step (access (check b x d)) s .after .rec .checked)
-      ≡ (value (s .words) φ (r .checked) && checkHolds (r .n) (r .w) (entryValues φ s) (value (s .words) φ b) (addressArgument φ s x) (wordArgument φ s d))
+      ≡ (value (s .words) φ (r .checked) && checkHolds (r .sizes) (entryValues φ s) (value (s .words) φ b) (addressArgument φ s x) (wordArgument φ s d))
   check-condition b x d q =
       let F = step-follows a small s (held φ s) (values-held (check-facts s b x d (acts (access (check b x d)) s (ap isRefused q) .0) .memory)) (access (check b x d)) in
       let H : Holds φ _ _ = rw q at (F .holds) in
@@ -164,10 +164,10 @@ module _ (a : ℕ) (small : a < 2 ^ 64) (s : State) where
   -- an assert that is not refused
   module _ (b : ℕ) (x d : List ℕ) (n : isRefused (step (access (assert b x d)) s .answer) ≡ false) where
     abbrev keeping : Bool
-    keeping = keeps (r .n) (r .w) (entryValues φ s) (value (s .words) φ b) (addressArgument φ s x) (wordArgument φ s d)
+    keeping = keeps (r .sizes) (entryValues φ s) (value (s .words) φ b) (addressArgument φ s x) (wordArgument φ s d)
 
     abbrev condition : Bool
-    condition = value (s .words) φ (r .asserted) && assertHolds (r .n) (r .w) (entryValues φ s) (value (s .words) φ b) (addressArgument φ s x) (wordArgument φ s d)
+    condition = value (s .words) φ (r .asserted) && assertHolds (r .sizes) (entryValues φ s) (value (s .words) φ b) (addressArgument φ s x) (wordArgument φ s d)
 
     no-row : refusal (access (assert b x d)) s ≡ 0
     no-row = acts (access (assert b x d)) s n .0
@@ -249,11 +249,11 @@ demand2 s a small =
       read-stays = read-stays a small s;
       kept-stays = λ b x d q.
           let F = assert-follows a small s b x d (ap isRefused q) in
-          holds-stays (bitAt a) s _ _ _ (F .same-w) (rw q at (F .holds));
+          holds-stays (bitAt a) s _ _ _ (F .sizes) (rw q at (F .holds));
       check-stays = check-stays a small s;
       assert-enters = λ b x d q.
           let F = assert-follows a small s b x d (ap isRefused q) in
-          holds-enters (bitAt a) s _ (control (value (s .words) (bitAt a) b)) x d (F .same-w) (rw q at (F .holds));
+          holds-enters (bitAt a) s _ (control (value (s .words) (bitAt a) b)) x d (F .sizes) (rw q at (F .holds));
       check-condition = check-condition a small s;
       evaluates = evaluates s;
       variable-node = variable-node a small s;
@@ -263,7 +263,7 @@ demand2 s a small =
 
 -- an assert that no row refuses, and whose first program does not overflow, is not kept only where some assignment does not keep it
 pub needs-where : (s : State) (b : ℕ) (a d : List ℕ) → refusal (access (assert b a d)) s ≡ 0 → assertFirst b a d s .store .full ≡ false → eqb (assertFirst b a d s .answer .keep) 1 ≡ false
-    → (k : ℕ) × (k < 2 ^ 64) × (keeps (s .rec .n) (s .rec .w) (entryValues (bitAt k) s) (value (s .words) (bitAt k) b) (addressArgument (bitAt k) s a) (wordArgument (bitAt k) s d) ≡ false)
+    → (k : ℕ) × (k < 2 ^ 64) × (keeps (s .rec .sizes) (entryValues (bitAt k) s) (value (s .words) (bitAt k) b) (addressArgument (bitAt k) s a) (wordArgument (bitAt k) s d) ≡ false)
 needs-where s b a d e f t =
     let M = assert-facts s b a d e .compared .memory in
     let X = assert-builds 0 (omega arith) s (held (bitAt 0) s) (holds-values (bitAt 0) s M) b a d e in
@@ -274,7 +274,7 @@ needs-where s b a d e f t =
 
 -- so one that is entered
 pub entered-where : (s : State) (b : ℕ) (a d : List ℕ) → step (access (assert b a d)) s .answer ≡ done entered
-    → (k : ℕ) × (k < 2 ^ 64) × (keeps (s .rec .n) (s .rec .w) (entryValues (bitAt k) s) (value (s .words) (bitAt k) b) (addressArgument (bitAt k) s a) (wordArgument (bitAt k) s d) ≡ false)
+    → (k : ℕ) × (k < 2 ^ 64) × (keeps (s .rec .sizes) (entryValues (bitAt k) s) (value (s .words) (bitAt k) b) (addressArgument (bitAt k) s a) (wordArgument (bitAt k) s d) ≡ false)
 entered-where s b a d q =
     let n : isRefused (step (access (assert b a d)) s .answer) ≡ false = ap isRefused q in
     needs-where s b a d (acts (access (assert b a d)) s n .0) (asserts s b a d n .0) (kept-or-entered s b a d n (λ e. absurd (true≢false (ap isLeftOut (rw e at q)))) (λ t f e. t))

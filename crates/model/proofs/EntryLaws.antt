@@ -8,21 +8,21 @@ use lib.ListN.{length, getD, length-append}
 use lib.Seq.{getD-at, ext-getD}
 use Rattle.conditions.specs.declared.Store.{Store}
 use Rattle.conditions.specs.Value.{value}
-use Rattle.model.specs.Pairs.{Pair, X, at}
+use Rattle.semantics.specs.Pairs.{Pair, X, at}
 use Rattle.model.specs.Record.{size, entryAt}
 use Rattle.model.specs.Step.{State, begin}
-use Rattle.model.specs.Published.{Entry, entry}
-use Rattle.model.specs.Array.{writes}
+use Rattle.semantics.specs.Published.{Entry, entry}
+use Rattle.semantics.specs.Array.{writes}
 use Rattle.model.specs.Claims.{pairs}
 use Rattle.model.specs.Meanings.{entryValue, entriesFrom, entryValues, portValue, addressArgument, wordArgument, Enters}
-use Rattle.model.specs.Held.{Held, add}
+use Rattle.semantics.specs.Held.{Held, add}
 use Rattle.model.specs.Table.{Names, MemoryFacts}
 use Rattle.model.proofs.MeansLaws.{near-self}
 use Rattle.model.proofs.HalfLaws.{halfOf, half-even, half-odd}
 use Rattle.model.proofs.AccessLaws.{Halves, EntryMeans, noEntry}
 use Rattle.model.proofs.ListLaws.{entry-words, entry-word, entry-address, entry-data}
 use Rattle.model.proofs.RowLaws.{length-pairs, pairs-half, name-means, names-halves}
-use Rattle.model.proofs.StepLaws.{Holds, pair-is}
+use Rattle.model.proofs.StepLaws.{AllWide, wide-more, Holds, pair-is}
 
 -- what a state holds by its values
 abbrev pub held : (ℕ → Bool) → State → Held
@@ -48,9 +48,9 @@ module _ (φ : ℕ → Bool) (s : State) (M : MemoryFacts s) where
       record {
         hard = name-means φ (s .rec) (s .words) (M .standard) (word 0 (omega arith));
         soft = name-means φ (s .rec) (s .words) (M .standard) (word 1 (omega arith));
-        address = names-halves φ (s .rec) (s .words) (M .standard) _ (s .rec .n) (λ i l. rw (entry-address (s .rec) (s .list) j i l) (stored (2 + i) (omega arith)));
-        word = names-halves φ (s .rec) (s .words) (M .standard) _ (s .rec .w) (λ i l. rw (entry-data (s .rec) (s .list) j i l) (stored (2 + 2 * s .rec .n + i) (omega arith)));
-        sized = length-pairs φ (s .words) _ 0 (s .rec .n);
+        address = names-halves φ (s .rec) (s .words) (M .standard) _ (s .rec .sizes .n) (λ i l. rw (entry-address (s .rec) (s .list) j i l) (stored (2 + i) (omega arith)));
+        word = names-halves φ (s .rec) (s .words) (M .standard) _ (s .rec .sizes .w) (λ i l. rw (entry-data (s .rec) (s .list) j i l) (stored (2 + 2 * s .rec .sizes .n + i) (omega arith)));
+        sized = length-pairs φ (s .words) _ 0 (s .rec .sizes .n);
       }
     where
       stored : (k : ℕ) → k < size (s .rec) → Names (s .rec) (s .words) (getD (s .list) (j * size (s .rec) + k) 0)
@@ -78,42 +78,33 @@ halves-pairs {σ} {u} {k} {w} {s} {ws} qs H free len =
     same : (h : ℕ) → h < 2 * k → halfOf h (at (pairs σ w ws k)) ≡ halfOf h (at qs)
     same h l = sym (half-value σ w ws k h l) ∙ H .half h l .is free σ (near-self σ)
 
-entry-is : (φ : ℕ → Bool) (s : State) (j : ℕ) (e : Entry) → EntryMeans φ (s .rec) e (s .words) (begin (s .rec)) (entryAt (s .rec) (s .list) j) → length (e .word) ≡ s .rec .w → entryValue φ s j ≡ e
+entry-is : (φ : ℕ → Bool) (s : State) (j : ℕ) (e : Entry) → EntryMeans φ (s .rec) e (s .words) (begin (s .rec)) (entryAt (s .rec) (s .list) j) → length (e .word) ≡ s .rec .sizes .w → entryValue φ s j ≡ e
 entry-is φ s j e M len = λ i. record { hard = M .hard .is refl φ (near-self φ) i; soft = M .soft .is refl φ (near-self φ) i; address = halves-pairs (e .address) (M .address) refl (M .sized) i; word = halves-pairs (e .word) (M .word) refl len i }
 
--- each entry of a list has w data pairs
-abbrev pub Sizes : ℕ → List Entry → Type 0
-Sizes w [] = Unit {0}
-Sizes w (e ∷ es) = (length (e .word) ≡ w) × Sizes w es
+wide-at : (w : ℕ) (es : List Entry) → AllWide w es → (j : ℕ) → j < length es → length (getD es j noEntry .word) ≡ w
+wide-at w [] S j h = absurd (omega arith)
+wide-at w (e ∷ es) S zero h = S .0
+wide-at w (e ∷ es) S (suc j) h = wide-at w es (S .1) j (omega arith)
 
-size-at : (w : ℕ) (es : List Entry) → Sizes w es → (j : ℕ) → j < length es → length (getD es j noEntry .word) ≡ w
-size-at w [] S j h = absurd (omega arith)
-size-at w (e ∷ es) S zero h = S .0
-size-at w (e ∷ es) S (suc j) h = size-at w es (S .1) j (omega arith)
-
-pub sizes-more : (w : ℕ) (es : List Entry) (e : Entry) → Sizes w es → length (e .word) ≡ w → Sizes w (es ++ (e ∷ []))
-sizes-more w [] e S h = (h, tt)
-sizes-more w (x ∷ es) e S h = (S .0, sizes-more w es e (S .1) h)
-
-sizes-values : (φ : ℕ → Bool) (s : State) (j k : ℕ) → Sizes (s .rec .w) (entriesFrom φ s j k)
-sizes-values φ s j zero = tt
-sizes-values φ s j (suc k) = (length-pairs φ (s .words) _ 0 (s .rec .w), sizes-values φ s (suc j) k)
+wide-values : (φ : ℕ → Bool) (s : State) (j k : ℕ) → AllWide (s .rec .sizes .w) (entriesFrom φ s j k)
+wide-values φ s j zero = tt
+wide-values φ s j (suc k) = (length-pairs φ (s .words) _ 0 (s .rec .sizes .w), wide-values φ s (suc j) k)
 
 -- a state that holds these entries has them as values
-pub holds-are : (φ : ℕ → Bool) (t : State) (h : Held) → Holds φ t h → Sizes (t .rec .w) (h .entries) → entryValues φ t ≡ h .entries
+pub holds-are : (φ : ℕ → Bool) (t : State) (h : Held) → Holds φ t h → AllWide (t .rec .sizes .w) (h .entries) → entryValues φ t ≡ h .entries
 holds-are φ t h H S =
     let l = length-entries φ t 0 (t .rec .entries) in
     ext-getD noEntry (entryValues φ t) (h .entries) (l ∙ sym (H .entries .count))
     (λ j b.
     let m : j < t .rec .entries = omega (arith, l) in
-    entries-at φ t (t .rec .entries) 0 j j m (omega arith) ∙ entry-is φ t j (getD (h .entries) j noEntry) (H .entries .at j m) (size-at (t .rec .w) (h .entries) S j (omega (arith, H .entries .count))))
+    entries-at φ t (t .rec .entries) 0 j j m (omega arith) ∙ entry-is φ t j (getD (h .entries) j noEntry) (H .entries .at j m) (wide-at (t .rec .sizes .w) (h .entries) S j (omega (arith, H .entries .count))))
 
 -- a state that holds one entry more, the published one, has the list with it at the end
-pub holds-enters : (φ : ℕ → Bool) (s t : State) (c : Pair) (a d : List ℕ) → t .rec .w ≡ s .rec .w → Holds φ t (add (held φ s) (writes c (addressArgument φ s a) (wordArgument φ s d))) → Enters φ s t c a d
+pub holds-enters : (φ : ℕ → Bool) (s t : State) (c : Pair) (a d : List ℕ) → t .rec .sizes ≡ s .rec .sizes → Holds φ t (add (held φ s) (writes c (addressArgument φ s a) (wordArgument φ s d))) → Enters φ s t c a d
 holds-enters φ s t c a d same H =
     let e = entry c (addressArgument φ s a) (wordArgument φ s d) in
-    holds-are φ t (add (held φ s) (writes c (addressArgument φ s a) (wordArgument φ s d))) H (rw same (sizes-more (s .rec .w) (entryValues φ s) e (sizes-values φ s 0 (s .rec .entries)) (length-pairs φ (s .words) d 0 (s .rec .w))))
+    holds-are φ t (add (held φ s) (writes c (addressArgument φ s a) (wordArgument φ s d))) H (rw same (wide-more (s .rec .sizes .w) (entryValues φ s) e (wide-values φ s 0 (s .rec .entries)) (length-pairs φ (s .words) d 0 (s .rec .sizes .w))))
 
 -- and one that holds the same entries has the same list
-pub holds-stays : (φ : ℕ → Bool) (s t : State) (g : ℕ → ℕ → Pair) (b : Bool) → t .rec .w ≡ s .rec .w → Holds φ t (record { entries = entryValues φ s; ports = g; condition = b }) → entryValues φ t ≡ entryValues φ s
-holds-stays φ s t g b same H = holds-are φ t (record { entries = entryValues φ s; ports = g; condition = b }) H (rw same (sizes-values φ s 0 (s .rec .entries)))
+pub holds-stays : (φ : ℕ → Bool) (s t : State) (g : ℕ → ℕ → Pair) (b : Bool) → t .rec .sizes ≡ s .rec .sizes → Holds φ t (record { entries = entryValues φ s; ports = g; condition = b }) → entryValues φ t ≡ entryValues φ s
+holds-stays φ s t g b same H = holds-are φ t (record { entries = entryValues φ s; ports = g; condition = b }) H (rw same (wide-values φ s 0 (s .rec .entries)))

@@ -20,11 +20,12 @@ use Rattle.conditions.specs.User.{isUser}
 use Rattle.conditions.specs.Meet.{neither, together, SomeNeither, SomeTogether, Decides}
 use Rattle.conditions.proofs.Promises.{standard-is, is-standard, user-stands, stands-user, neither-decides, together-decides}
 use Rattle.formulas.specs.Language.{Tree, predicate, next, both, when, grouped}
+use Rattle.semantics.specs.declared.Sizes.{Sizes}
 use Rattle.model.specs.Record.{Record, hAt, lAt, dataWords, size, listCapacity, portAt}
 use Rattle.model.specs.Formula.{everyNode}
-use Rattle.model.specs.Rows.{Row, firstRow, users, legalPairs, row1, row2, row3, portsRow, spaceFor, writeRows, readRows, checkRows, assertRows, evaluateRows, variableRows, iteRows, formulaRows}
-use Rattle.model.specs.Step.{State, write, read, assert, check, evaluate, variable, ite, conditions, Call, access, nodeCall, refusal, freshRecord, freshRows}
-use Rattle.model.specs.Table.{Fact, InRange, Names, AllName, Listed, AllHoldNodes, NoneNeither, NoneUnknown, Space, writeFacts, readFacts, checkFacts, assertFacts, evaluateFacts, variableFacts, iteFacts, EachArrow, formulaFacts, facts, freshFacts, AllHold, FirstFails, Slice, MemoryFacts, WriteFacts, ReadFacts, CheckFacts, AssertFacts, NodeFacts}
+use Rattle.model.specs.Rows.{Row, firstRow, users, legalPairs, row1, row2, row3, portsRow, spaceFor, comparedRows, writeRows, readRows, checkRows, assertRows, evaluateRows, variableRows, iteRows, formulaRows}
+use Rattle.model.specs.Step.{State, write, read, assert, check, evaluate, variable, ite, conditions, Call, access, nodeCall, upkeep, refusal, freshRecord, freshRows}
+use Rattle.model.specs.Table.{Fact, fact, InRange, Names, AllName, Listed, AllHoldNodes, NoneNeither, NoneUnknown, Space, storeFacts, comparedFacts, writeFacts, readFacts, checkFacts, assertFacts, evaluateFacts, variableFacts, iteFacts, EachArrow, formulaFacts, facts, freshFacts, AllHold, FirstFails, Slice, MemoryFacts, WriteFacts, ReadFacts, CheckFacts, AssertFacts, NodeFacts}
 
 -- no row has the number 0
 abbrev pub numbered : List Row → Bool
@@ -139,16 +140,16 @@ is-fits r l k h m =
     omega arith
 
 module _ (r : Record) (w : List ℕ) where
-  pub row1-tells : Tells (row1 r w) (InRange (r .n) (r .w))
+  pub row1-tells : Tells (row1 r w) (InRange (r .sizes))
   unfolding row1
   row1-tells =
       record {
         is = λ e.
             let p = and-both _ _ e in
             let q = and-both _ _ (p .0) in
-            let t = and-both (leb 1 (r .n)) _ (q .0) in
+            let t = and-both (leb 1 (r .sizes .n)) _ (q .0) in
             record { n-least = leb-true _ _ (t .0); n-most = leb-true _ _ (t .1); w-least = leb-true _ _ (q .1); w-most = leb-true _ _ (p .1) };
-        so = λ R. rw (le-leb 1 (r .n) (R .n-least), le-leb (r .n) 8 (R .n-most), le-leb 1 (r .w) (R .w-least), le-leb (r .w) 16 (R .w-most));
+        so = λ R. rw (le-leb 1 (r .sizes .n) (R .n-least), le-leb (r .sizes .n) 8 (R .n-most), le-leb 1 (r .sizes .w) (R .w-least), le-leb (r .sizes .w) 16 (R .w-most));
       }
 
   row2-tells : Tells (row2 r w) (Standard w (r .count))
@@ -213,130 +214,93 @@ module _ (r : Record) (w : List ℕ) where
         each (λ i. not (neither w (hAt ws i) (lAt ws i))) (λ i. (a : ℕ) → a < 2 ^ 64 → value w (bitAt a) (hAt ws i) ≡ false → value w (bitAt a) (lAt ws i) ≡ false → ⊥) k
         (λ i l. neither-tells (hAt ws i) (lAt ws i) (N (2 * i) (omega arith) .below) (N (2 * i + 1) (omega arith) .below))
 
-    unknown-tells : (b : ℕ) (ws : List ℕ) → Names r w b → AllName r w ws (2 * r .n) → Tells (every (λ i. not (together w b (hAt ws i) (lAt ws i))) 0 (r .n)) (NoneUnknown r w b ws)
+    unknown-tells : (b : ℕ) (ws : List ℕ) → Names r w b → AllName r w ws (2 * r .sizes .n) → Tells (every (λ i. not (together w b (hAt ws i) (lAt ws i))) 0 (r .sizes .n)) (NoneUnknown r w b ws)
     unknown-tells b ws B N =
-        each (λ i. not (together w b (hAt ws i) (lAt ws i))) (λ i. (a : ℕ) → a < 2 ^ 64 → value w (bitAt a) b ≡ true → value w (bitAt a) (hAt ws i) ≡ true → value w (bitAt a) (lAt ws i) ≡ true → ⊥) (r .n)
+        each (λ i. not (together w b (hAt ws i) (lAt ws i))) (λ i. (a : ℕ) → a < 2 ^ 64 → value w (bitAt a) b ≡ true → value w (bitAt a) (hAt ws i) ≡ true → value w (bitAt a) (lAt ws i) ≡ true → ⊥) (r .sizes .n)
         (λ i l. together-tells b (hAt ws i) (lAt ws i) (B .below) (N (2 * i) (omega arith) .below) (N (2 * i + 1) (omega arith) .below))
 
-  -- each row beside its fact
+  -- a row beside its fact, and what follows where the fact holds
+  abbrev Beside : ℕ → Bool → Type 0 → Type 0 → Type 0
+  Beside k b P A = (k ≡ k) × Tells b P × (P → A)
+
+  -- rows 1 and 2 of every call, and 3 of an access
+  store-agree : {A : Type 0} → (Standard w (r .count) → A) → Beside 1 (row1 r w) (InRange (r .sizes)) (Beside 2 (row2 r w) (Standard w (r .count)) A)
+  store-agree f = (refl, row1-tells, λ R. (refl, row2-tells, f))
+
+  memory-agree : {A : Type 0} (l : List ℕ) → (Standard w (r .count) → A) → Beside 1 (row1 r w) (InRange (r .sizes)) (Beside 2 (row2 r w) (Standard w (r .count)) (Beside 3 (row3 r w l) (Listed r w l) A))
+  memory-agree l f = store-agree (λ S. (refl, row3-tells l, λ T. f S))
+
   write-agree : (l c a d : List ℕ) → Agree (writeRows r w l c a d) (writeFacts r w l c a d)
-  write-agree l c a d = (
-    refl,
-    row1-tells,
-    λ R. (
-      refl,
-      row2-tells,
-      λ S. (
+  write-agree l c a d =
+      memory-agree l
+      (λ S. (
         refl,
-        row3-tells l,
-        λ T. (
+        three (same (length c) 2) (same (length a) (2 * r .sizes .n)) (same (length d) (2 * r .sizes .w)),
+        λ L. (
           refl,
-          three (same (length c) 2) (same (length a) (2 * r .n)) (same (length d) (2 * r .w)),
-          λ L. (
+          three (users-tell c 2 (L .0)) (users-tell a (2 * r .sizes .n) (L .1)) (users-tell d (2 * r .sizes .w) (L .2)),
+          λ N. (
             refl,
-            three (users-tell c 2 (L .0)) (users-tell a (2 * r .n) (L .1)) (users-tell d (2 * r .w) (L .2)),
-            λ N. (
-              refl,
-              three (pairs-tell S c 1 (N .0)) (pairs-tell S a (r .n) (N .1)) (pairs-tell S d (r .w) (N .2)),
-              λ Q. tt,
-            ),
+            three (pairs-tell S c 1 (N .0)) (pairs-tell S a (r .sizes .n) (N .1)) (pairs-tell S d (r .sizes .w) (N .2)),
+            λ Q. tt,
           ),
         ),
-      ),
-    ),
-  )
+      ))
 
   pub ports-tell : (ps : List ℕ) → Tells (portsRow r w ps) (AllHoldNodes r w ps)
   unfolding portsRow
   ports-tell ps =
-      each (λ p. every (λ i. isUser w (r .count) (getD ps (portAt p + i) 0)) 0 (dataWords r)) (λ p. (i : ℕ) → i < 2 * r .w → Names r w (getD ps (p * 32 + i) 0)) 4
-      (λ p l. each (λ i. isUser w (r .count) (getD ps (portAt p + i) 0)) (λ i. Names r w (getD ps (p * 32 + i) 0)) (2 * r .w) (λ i k. names (getD ps (p * 32 + i) 0)))
+      each (λ p. every (λ i. isUser w (r .count) (getD ps (portAt p + i) 0)) 0 (dataWords r)) (λ p. (i : ℕ) → i < 2 * r .sizes .w → Names r w (getD ps (p * 32 + i) 0)) 4
+      (λ p l. each (λ i. isUser w (r .count) (getD ps (portAt p + i) 0)) (λ i. Names r w (getD ps (p * 32 + i) 0)) (2 * r .sizes .w) (λ i k. names (getD ps (p * 32 + i) 0)))
 
   read-agree : (l ps : List ℕ) (p : ℕ) (e a out : List ℕ) → Agree (readRows r w l ps p e a out) (readFacts r w l ps p e a out)
-  read-agree l ps p e a out = (
-    refl,
-    row1-tells,
-    λ R. (
-      refl,
-      row2-tells,
-      λ S. (
+  read-agree l ps p e a out =
+      store-agree
+      (λ S. (
         refl,
         two (row3-tells l) (ports-tell ps),
         λ T. (
           refl,
-          three (same (length e) 2) (same (length a) (2 * r .n)) (same (length out) (2 * r .w)),
+          three (same (length e) 2) (same (length a) (2 * r .sizes .n)) (same (length out) (2 * r .sizes .w)),
           λ L. (
             refl,
             most p 3,
             λ P. (
               refl,
-              two (users-tell e 2 (L .0)) (users-tell a (2 * r .n) (L .1)),
-              λ N. (refl, two (pairs-tell S e 1 (N .0)) (pairs-tell S a (r .n) (N .1)), λ Q. tt),
+              two (users-tell e 2 (L .0)) (users-tell a (2 * r .sizes .n) (L .1)),
+              λ N. (refl, two (pairs-tell S e 1 (N .0)) (pairs-tell S a (r .sizes .n) (N .1)), λ Q. tt),
             ),
           ),
         ),
-      ),
-    ),
-  )
+      ))
+
+  compared-agree : (ts : List Row) (fs : List Fact) (l : List ℕ) (b : ℕ) (a d : List ℕ) → (Standard w (r .count) → Names r w b → AllName r w a (2 * r .sizes .n) → Agree ts fs) → Agree (comparedRows r w l b a d ts) (comparedFacts r w l b a d fs)
+  compared-agree ts fs l b a d f =
+      memory-agree l
+      (λ S. (
+        refl,
+        two (same (length a) (2 * r .sizes .n)) (same (length d) (2 * r .sizes .w)),
+        λ L. (
+          refl,
+          three (names b) (users-tell a (2 * r .sizes .n) (L .0)) (users-tell d (2 * r .sizes .w) (L .1)),
+          λ N. (refl, two (pairs-tell S a (r .sizes .n) (N .1)) (pairs-tell S d (r .sizes .w) (N .2)), λ Q. f S (N .0) (N .1)),
+        ),
+      ))
 
   check-agree : (l : List ℕ) (b : ℕ) (a d : List ℕ) → Agree (checkRows r w l b a d) (checkFacts r w l b a d)
-  check-agree l b a d = (
-    refl,
-    row1-tells,
-    λ R. (
-      refl,
-      row2-tells,
-      λ S. (
-        refl,
-        row3-tells l,
-        λ T. (
-          refl,
-          two (same (length a) (2 * r .n)) (same (length d) (2 * r .w)),
-          λ L. (
-            refl,
-            three (names b) (users-tell a (2 * r .n) (L .0)) (users-tell d (2 * r .w) (L .1)),
-            λ N. (refl, two (pairs-tell S a (r .n) (N .1)) (pairs-tell S d (r .w) (N .2)), λ Q. tt),
-          ),
-        ),
-      ),
-    ),
-  )
+  check-agree l b a d = compared-agree [] [] l b a d (λ S B A. tt)
 
   assert-agree : (l : List ℕ) (b : ℕ) (a d : List ℕ) → Agree (assertRows r w l b a d) (assertFacts r w l b a d)
-  assert-agree l b a d = (
-    refl,
-    row1-tells,
-    λ R. (
-      refl,
-      row2-tells,
-      λ S. (
-        refl,
-        row3-tells l,
-        λ T. (
-          refl,
-          two (same (length a) (2 * r .n)) (same (length d) (2 * r .w)),
-          λ L. (
-            refl,
-            three (names b) (users-tell a (2 * r .n) (L .0)) (users-tell d (2 * r .w) (L .1)),
-            λ N. (
-              refl,
-              two (pairs-tell S a (r .n) (N .1)) (pairs-tell S d (r .w) (N .2)),
-              λ Q. (refl, unknown-tells S b a (N .0) (N .1), λ U. tt),
-            ),
-          ),
-        ),
-      ),
-    ),
-  )
+  assert-agree l b a d = compared-agree ((7, every (λ i. not (together w b (hAt a i) (lAt a i))) 0 (r .sizes .n)) ∷ []) (fact 7 (NoneUnknown r w b a) ∷ []) l b a d (λ S B A. (refl, unknown-tells S b a B A, λ U. tt))
 
   evaluate-agree : (f : ℕ) → Agree (evaluateRows r w f) (evaluateFacts r w f)
-  evaluate-agree f = (refl, row1-tells, λ R. (refl, row2-tells, λ S. (refl, under f (r .count), λ F. tt)))
+  evaluate-agree f = store-agree (λ S. (refl, under f (r .count), λ F. tt))
 
   variable-agree : (v : ℕ) → Agree (variableRows r w v) (variableFacts r w v)
-  variable-agree v = (refl, row1-tells, λ R. (refl, row2-tells, λ S. (refl, two (most 8 v) (most v 63), λ F. tt)))
+  variable-agree v = store-agree (λ S. (refl, two (most 8 v) (most v 63), λ F. tt))
 
   ite-agree : (f g h : ℕ) → Agree (iteRows r w f g h) (iteFacts r w f g h)
-  ite-agree f g h = (refl, row1-tells, λ R. (refl, row2-tells, λ S. (refl, three (names f) (names g) (names h), λ F. tt)))
+  ite-agree f g h = store-agree (λ S. (refl, three (names f) (names g) (names h), λ F. tt))
 
   arrows-tell : (t : Tree) → Tells (everyNode (isUser w (r .count)) t) (EachArrow (Names r w) t)
   arrows-tell (predicate n) = record { is = λ e. tt; so = λ x. refl }
@@ -346,7 +310,7 @@ module _ (r : Record) (w : List ℕ) where
   arrows-tell (grouped t) = arrows-tell t
 
   formula-agree : (t : Tree) → Agree (formulaRows r w t) (formulaFacts r w t)
-  formula-agree t = (refl, row1-tells, λ R. (refl, row2-tells, λ S. (refl, arrows-tell t, λ F. tt)))
+  formula-agree t = store-agree (λ S. (refl, arrows-tell t, λ F. tt))
 
 -- the refusal of a call's rows is what its facts say
 pub call-told : (c : Call) (s : State) → Told (refusal c s) (facts c s)
@@ -358,6 +322,7 @@ call-told (nodeCall (evaluate f a)) s = told (evaluateRows (s .rec) (s .words) f
 call-told (nodeCall (variable v)) s = told (variableRows (s .rec) (s .words) v) _ refl (variable-agree (s .rec) (s .words) v)
 call-told (nodeCall (ite f g h)) s = told (iteRows (s .rec) (s .words) f g h) _ refl (ite-agree (s .rec) (s .words) f g h)
 call-told (nodeCall (conditions t)) s = told (formulaRows (s .rec) (s .words) t) _ refl (formula-agree (s .rec) (s .words) t)
+call-told (upkeep c) s = absurd c
 
 -- where no row refuses a call, its facts by name
 module _ (s : State) where
@@ -394,62 +359,45 @@ module _ (s : State) where
         answer-long = four .2;
       }
 
-  pub check-facts : (b : ℕ) (a d : List ℕ) → refusal (access (check b a d)) s ≡ 0 → CheckFacts s b a d
-  check-facts b a d e =
-      let (one, rest) = call-told (access (check b a d)) s .none e in
+  compared-facts : (b : ℕ) (a d : List ℕ) (fs : List Fact) → AllHold (comparedFacts (s .rec) (s .words) (s .list) b a d fs) → CheckFacts s b a d × AllHold fs
+  compared-facts b a d fs H =
+      let (one, rest) = H in
       let (two, rest) = rest in
       let (three, rest) = rest in
       let (four, rest) = rest in
       let (five, rest) = rest in
-      let (six, rest) = rest in
-      record {
-        memory = record { range = one; standard = two; listed = three };
-        control = five .0;
-        address = record { long = four .0; names = five .1; legal = six .0 };
-        word = record { long = four .1; names = five .2; legal = six .1 };
-      }
-
-  pub assert-facts : (b : ℕ) (a d : List ℕ) → refusal (access (assert b a d)) s ≡ 0 → AssertFacts s b a d
-  assert-facts b a d e =
-      let (one, rest) = call-told (access (assert b a d)) s .none e in
-      let (two, rest) = rest in
-      let (three, rest) = rest in
-      let (four, rest) = rest in
-      let (five, rest) = rest in
-      let (six, rest) = rest in
-      record {
-        compared = record {
+      let (six, rest) = rest in (
+        record {
           memory = record { range = one; standard = two; listed = three };
           control = five .0;
           address = record { long = four .0; names = five .1; legal = six .0 };
           word = record { long = four .1; names = five .2; legal = six .1 };
-        };
-        known = rest .0;
-      }
+        },
+        rest,
+      )
+
+  pub check-facts : (b : ℕ) (a d : List ℕ) → refusal (access (check b a d)) s ≡ 0 → CheckFacts s b a d
+  check-facts b a d e = compared-facts b a d [] (call-told (access (check b a d)) s .none e) .0
+
+  pub assert-facts : (b : ℕ) (a d : List ℕ) → refusal (access (assert b a d)) s ≡ 0 → AssertFacts s b a d
+  assert-facts b a d e =
+      let C = compared-facts b a d (fact 7 (NoneUnknown (s .rec) (s .words) b a) ∷ []) (call-told (access (assert b a d)) s .none e) in
+      record { compared = C .0; known = C .1 .0 }
+
+  node-facts : (P : Type 0) → AllHold (storeFacts (s .rec) (s .words) (fact 5 P ∷ [])) → NodeFacts s P
+  node-facts P H = record { range = H .0; standard = H .1 .0; named = H .1 .1 .0 }
 
   pub evaluate-facts : (f a : ℕ) → refusal (nodeCall (evaluate f a)) s ≡ 0 → NodeFacts s (f < s .rec .count)
-  evaluate-facts f a e =
-      let (one, rest) = call-told (nodeCall (evaluate f a)) s .none e in
-      let (two, rest) = rest in
-      record { range = one; standard = two; named = rest .0 }
+  evaluate-facts f a e = node-facts _ (call-told (nodeCall (evaluate f a)) s .none e)
 
   pub variable-facts : (v : ℕ) → refusal (nodeCall (variable v)) s ≡ 0 → NodeFacts s ((8 ≤ v) × (v ≤ 63))
-  variable-facts v e =
-      let (one, rest) = call-told (nodeCall (variable v)) s .none e in
-      let (two, rest) = rest in
-      record { range = one; standard = two; named = rest .0 }
+  variable-facts v e = node-facts _ (call-told (nodeCall (variable v)) s .none e)
 
   pub ite-facts : (f g h : ℕ) → refusal (nodeCall (ite f g h)) s ≡ 0 → NodeFacts s (Names (s .rec) (s .words) f × Names (s .rec) (s .words) g × Names (s .rec) (s .words) h)
-  ite-facts f g h e =
-      let (one, rest) = call-told (nodeCall (ite f g h)) s .none e in
-      let (two, rest) = rest in
-      record { range = one; standard = two; named = rest .0 }
+  ite-facts f g h e = node-facts _ (call-told (nodeCall (ite f g h)) s .none e)
 
   pub formula-facts : (t : Tree) → refusal (nodeCall (conditions t)) s ≡ 0 → NodeFacts s (EachArrow (Names (s .rec) (s .words)) t)
-  formula-facts t e =
-      let (one, rest) = call-told (nodeCall (conditions t)) s .none e in
-      let (two, rest) = rest in
-      record { range = one; standard = two; named = rest .0 }
+  formula-facts t e = node-facts _ (call-told (nodeCall (conditions t)) s .none e)
 
 -- every call that no row refuses is lent a standard store
 pub call-standard : (c : Call) (s : State) → refusal c s ≡ 0 → Standard (s .words) (s .rec .count)
@@ -461,7 +409,8 @@ call-standard (nodeCall (evaluate f a)) s e = evaluate-facts s f a e .standard
 call-standard (nodeCall (variable v)) s e = variable-facts s v e .standard
 call-standard (nodeCall (ite f g h)) s e = ite-facts s f g h e .standard
 call-standard (nodeCall (conditions t)) s e = formula-facts s t e .standard
+call-standard (upkeep c) s e = absurd c
 
 -- Fresh
-pub fresh-told : (n w : ℕ) (ws : List ℕ) → Told (freshRows n w ws) (freshFacts n w ws)
-fresh-told n w ws = told ((1, row1 (freshRecord n w) ws) ∷ (2, leb 6 (length ws)) ∷ []) _ refl (refl, row1-tells (freshRecord n w) ws, λ R. (refl, most 6 (length ws), λ S. tt))
+pub fresh-told : (z : Sizes) (ws : List ℕ) → Told (freshRows z ws) (freshFacts z ws)
+fresh-told z ws = told ((1, row1 (freshRecord z) ws) ∷ (2, leb 6 (length ws)) ∷ []) _ refl (refl, row1-tells (freshRecord z) ws, λ R. (refl, most 6 (length ws), λ S. tt))

@@ -15,12 +15,13 @@ use Rattle.conditions.specs.Value.{value}
 use Rattle.conditions.specs.User.{isUser}
 use Rattle.conditions.specs.Meaning.{Meaning, Builds}
 use Rattle.conditions.proofs.Promises.{from-1, extends-refl, extends-trans, standard-is, is-standard, terminals-standard, clear-standard, clear-below, ite-builds, variable-builds, is-user}
+use Rattle.semantics.specs.declared.Sizes.{Sizes}
 use Rattle.model.specs.Record.{listCapacity, heldWord, freshPorts}
 use Rattle.model.specs.Access.{Write, Read, Check}
 use Rattle.model.specs.Rows.{Row, firstRow, users, row1, writeRows, readRows, assertRows, checkRows, evaluateRows, variableRows, iteRows, formulaRows, portsRow}
-use Rattle.model.specs.Step.{State, withWords, write, read, assert, check, evaluate, variable, ite, conditions, Call, access, nodeCall, Given, idle, filled, entered, kept, accepted, node, triples, refused, done, isRefused, Filling, fills, fillsNone, filling, Result, refusal, turnedDown, Finish, full, short, gives, closed, unlessFull, begin, grown, withEntry, withAssertCondition, assertFirst, finishAccess, finishNode, finish, turnedDownBy, step, run, fresh, freshRows, freshUnless, freshRecord, withHeld}
+use Rattle.model.specs.Step.{State, withWords, write, read, assert, check, evaluate, variable, ite, conditions, Call, access, nodeCall, upkeep, Given, idle, filled, entered, kept, accepted, node, triples, refused, done, isRefused, Filling, fills, fillsNone, filling, Result, refusal, turnedDown, Finish, full, short, gives, closed, unlessFull, begin, grown, withEntry, withAssertCondition, assertFirst, finishAccess, finishNode, finish, turnedDownBy, step, run, fresh, freshRows, freshUnless, freshRecord, withHeld, isUpkeep, Answer, answerWords, filledOver}
 use Rattle.model.specs.Claims.{pairs}
-use Rattle.model.specs.Frames.{clears, wordsAfter, RefusalLeaves, RefusalNumber, Extended, SuccessLeaves, Valid, StaysValid, NoRow123, FreshLeaves, FreshValid, FreshNoRow123, numbers, portsAfter, PortsLeft, PortsValid, PortsStayValid, freshState}
+use Rattle.model.specs.Frames.{clears, wordsAfter, RefusalLeaves, RefusalNumber, Extended, SuccessLeaves, Valid, StaysValid, NoRow123, FreshLeaves, FreshValid, FreshNoRow123, numbers, PortsLeft, PortsValid, PortsStayValid, freshState, heldBy, seesPorts, SameSizes, SizesStay, AnswersLeft}
 use Rattle.model.proofs.MeansLaws.{Means, user-means}
 use Rattle.model.proofs.AccessLaws.{write-means}
 use Rattle.model.proofs.FormulaLaws.{formula-builds}
@@ -56,6 +57,7 @@ rows-plain (nodeCall (evaluate f φ)) s = row-number plain (evaluateRows (s .rec
 rows-plain (nodeCall (variable v)) s = row-number plain (variableRows (s .rec) (s .words) v) refl
 rows-plain (nodeCall (ite f g h)) s = row-number plain (iteRows (s .rec) (s .words) f g h) refl
 rows-plain (nodeCall (conditions t)) s = row-number plain (formulaRows (s .rec) (s .words) t) refl
+rows-plain (upkeep c) s = absurd c
 
 -- and in a valid state it is 4 or more
 rows-late : (c : Call) (s : State) → Valid s → PortsValid s → (k : ℕ) → refusal c s ≡ suc k → leb 4 (suc k) ≡ true
@@ -67,6 +69,7 @@ rows-late (nodeCall (evaluate f φ)) s H P = row-number (leb 4) (evaluateRows (s
 rows-late (nodeCall (variable v)) s H P = row-number (leb 4) (variableRows (s .rec) (s .words) v) (rw (H .one, H .two))
 rows-late (nodeCall (ite f g h)) s H P = row-number (leb 4) (iteRows (s .rec) (s .words) f g h) (rw (H .one, H .two))
 rows-late (nodeCall (conditions t)) s H P = row-number (leb 4) (formulaRows (s .rec) (s .words) t) (rw (H .one, H .two))
+rows-late (upkeep c) s H P = absurd c
 
 -- what a refusal leaves
 abbrev left : State → ℕ → State
@@ -76,6 +79,15 @@ record Refuses (s t : State) (k : ℕ) : Type 0 where
   leaves : t ≡ left s k
   number : numbers k ≡ true
   late : Valid s → PortsValid s → 4 ≤ k
+
+-- the ports after a call
+abbrev portsAfter : Call → Answer → List ℕ → List ℕ
+portsAfter (access (write c a d)) x ps = ps
+portsAfter (access (read p e a out)) x ps = heldBy (filling x) p ps
+portsAfter (access (assert b a d)) x ps = ps
+portsAfter (access (check b a d)) x ps = ps
+portsAfter (nodeCall c) x ps = ps
+portsAfter (upkeep c) x ps = absurd c
 
 -- what holds of a call's answer and of the state that it leaves
 record Leaves (c : Call) (s : State) (x : Result) : Type 0 where
@@ -99,6 +111,7 @@ refused-ports (access (read p e a out)) k ps = refl
 refused-ports (access (assert b a d)) k ps = refl
 refused-ports (access (check b a d)) k ps = refl
 refused-ports (nodeCall c) k ps = refl
+refused-ports (upkeep c) k ps = absurd c
 
 -- the ports in a store in which every node that 5 accepted is still accepted
 ports-stay : (s : State) (w : List ℕ) (c v u : ℕ) → ((n : ℕ) → User s n → isUser w c n ≡ true) → PortsValid s → PortsValid (withConditions s w c v u)
@@ -155,16 +168,16 @@ module _ (c : Call) (s : State) where
     conditions-leave v u A C = done-leaves g (withConditions s w n v u) (conditions-extended s w n v u E) (conditions-valid s w n v u (user-grows E) S A C) still (λ H P. ports-stay s w n v u (user-grows E) P)
 
     -- one entry more, and what its Write built
-    entry-leaves : (v : ℕ) → (User s (s .rec .asserted) → isUser w n v ≡ true) → (h l : ℕ) → isUser w n h ≡ true → isUser w n l ≡ true → (a d : List ℕ) → length a ≡ 2 * s .rec .n → length d ≡ 2 * s .rec .w
+    entry-leaves : (v : ℕ) → (User s (s .rec .asserted) → isUser w n v ≡ true) → (h l : ℕ) → isUser w n h ≡ true → isUser w n l ≡ true → (a d : List ℕ) → length a ≡ 2 * s .rec .sizes .n → length d ≡ 2 * s .rec .sizes .w
         → users (s .rec) (s .words) a ≡ true → users (s .rec) (s .words) d ≡ true → s .rec .entries < listCapacity (s .rec) (s .list)
-        → let x = Write (s .rec .n) h l a w (record { count = n; full = false }) in
+        → let x = Write (s .rec .sizes .n) h l a w (record { count = n; full = false }) in
         Leaves c s (closed s (gives g (withEntry (withAssertCondition (grown s (x .words) (x .store .count)) v) (x .answer) a d)))
     unfolding listCapacity portsRow
     entry-leaves v A h l uh ul a d na wd ua ud room =
         let r = withAssertCondition (grown s w n) v .rec in
-        let X = write-means (s .rec .n) h l a (record { h = value w σ h; l = value w σ l }) (pairs σ w a (s .rec .n)) [] (length-pairs σ w a 0 (s .rec .n)) w (begin r) S (user-means {s = begin r} S uh) (user-means {s = begin r} S ul)
-        (names-halves σ r w S a (s .rec .n) (users-tell r w a (2 * s .rec .n) na .is (users-stay s w n v (s .rec .checked) (user-grows E) a ua))) in
-        let x = Write (s .rec .n) h l a w (begin r) in
+        let X = write-means (s .rec .sizes .n) h l a (record { h = value w σ h; l = value w σ l }) (pairs σ w a (s .rec .sizes .n)) [] (length-pairs σ w a 0 (s .rec .sizes .n)) w (begin r) S (user-means {s = begin r} S uh) (user-means {s = begin r} S ul)
+        (names-halves σ r w S a (s .rec .sizes .n) (users-tell r w a (2 * s .rec .sizes .n) na .is (users-stay s w n v (s .rec .checked) (user-grows E) a ua))) in
+        let x = Write (s .rec .sizes .n) h l a w (begin r) in
         let F = extends-trans E (X .extends) in
         let m = x .store .count in
         let u = s .rec .checked in
@@ -193,7 +206,7 @@ finish-leaves (access (write c a d)) s e =
     of-write (λ (z : Finish). Leaves (access (write c a d)) s (closed s z)) c a d s (λ i. same-leaves (access (write c a d)) s idle refl) (λ i f. full-leaves (access (write c a d)) s _)
     (λ i f room. entry-leaves (access (write c a d)) s _ refl (s .words) (r .count) (extends-refl (s .words) (r .count)) (F .memory .standard) (r .asserted) (λ u. u)
     (getD c 0 0) (getD c 1 0) (names r (s .words) _ .so (F .enable .names 0 (omega arith))) (names r (s .words) _ .so (F .enable .names 1 (omega arith))) a d (F .address .long) (F .word .long)
-    (users-tell r (s .words) a (2 * r .n) (F .address .long) .so (F .address .names)) (users-tell r (s .words) d (2 * r .w) (F .word .long) .so (F .word .names)) (space-room r (s .words) (s .list) room))
+    (users-tell r (s .words) a (2 * r .sizes .n) (F .address .long) .so (F .address .names)) (users-tell r (s .words) d (2 * r .sizes .w) (F .word .long) .so (F .word .names)) (space-room r (s .words) (s .list) room))
     (λ i f room. short-leaves (access (write c a d)) s)
 finish-leaves (access (read p en a out)) s e =
     let F = read-facts s p en a out e in
@@ -203,7 +216,7 @@ finish-leaves (access (read p en a out)) s e =
     let x = Read r (s .list) (heldWord r (s .ports) p) (getD en 0 0) (getD en 1 0) a (s .words) (begin r) in
     let G = conditions-extended s (x .words) (x .store .count) (r .asserted) (r .checked) (X .extends) in
     nine-leaves c s x _
-    (λ f. done-leaves c s (filled (x .answer)) (withHeld (grown s (x .words) (x .store .count)) p (x .answer)) (record { n = G .n; w = G .w; nodes = G .nodes; more = G .more; len = G .len; old = G .old; past = G .past })
+    (λ f. done-leaves c s (filled (x .answer)) (withHeld (grown s (x .words) (x .store .count)) p (x .answer)) (record { same = record { sizes = G .same .sizes; len = G .same .len }; nodes = G .nodes; more = G .more; old = G .old; past = G .past })
     (λ H.
     let C = conditions-valid s (x .words) (x .store .count) (r .asserted) (r .checked) (user-grows (X .extends)) (X .standard) (user-grows (X .extends) (r .asserted)) (user-grows (X .extends) (r .checked)) H in
     record { one = C .one; two = C .two; three = C .three }) refl
@@ -221,7 +234,7 @@ finish-leaves (access (assert b a d)) s e =
     (λ f k. conditions-leave c s kept refl (x .words) n (X .extends) (X .standard) v (r .checked) (λ u. means-user (X .post .condition)) (user-grows (X .extends) (r .checked)))
     (λ f k room. short-leaves c s) (λ f k room g. full-leaves c s _)
     (λ f k room g. entry-leaves c s entered refl (x .words) n (X .extends) (X .standard) v (λ u. means-user (X .post .condition)) b (x .answer .notB) (user-grows (X .extends) b (names r (s .words) b .so (K .control))) (means-user (X .post .notB))
-    a d (K .address .long) (K .word .long) (users-tell r (s .words) a (2 * r .n) (K .address .long) .so (K .address .names)) (users-tell r (s .words) d (2 * r .w) (K .word .long) .so (K .word .names)) (space-room r (s .words) (s .list) room))
+    a d (K .address .long) (K .word .long) (users-tell r (s .words) a (2 * r .sizes .n) (K .address .long) .so (K .address .names)) (users-tell r (s .words) d (2 * r .sizes .w) (K .word .long) .so (K .word .names)) (space-room r (s .words) (s .list) room))
 finish-leaves (access (check b a d)) s e =
     let X = check-program σ s b a d (check-facts s b a d e) in
     let r = s .rec in
@@ -238,6 +251,7 @@ finish-leaves (nodeCall (ite f g h)) s e =
 finish-leaves (nodeCall (conditions t)) s e =
     let F = formula-facts s t e in
     grown-leaves (nodeCall (conditions t)) s (formula-builds (s .rec) (s .words) (F .standard) t (F .named)) triples (λ a. refl)
+finish-leaves (upkeep c) s e = absurd c
 
 step-leaves : (c : Call) (s : State) → Leaves c s (step c s)
 unfolding step
@@ -255,9 +269,16 @@ pub refusal-number : RefusalNumber
 unfolding RefusalNumber
 refusal-number c s k e = step-leaves c s .refuses k e .number
 
+unseen-ports : (c : Call) → seesPorts c ≡ false → (x : Answer) (ps : List ℕ) → portsAfter c x ps ≡ ps
+unseen-ports (access (write c a d)) e x ps = refl
+unseen-ports (access (read p n a out)) e x ps = absurd (true≢false e)
+unseen-ports (access (assert b a d)) e x ps = refl
+unseen-ports (access (check b a d)) e x ps = refl
+unseen-ports (nodeCall c) e x ps = refl
+unseen-ports (upkeep c) e x ps = absurd c
+
 pub ports-left : PortsLeft
-unfolding PortsLeft
-ports-left c s = step-leaves c s .ports
+ports-left = record { unseen = λ c s e. step-leaves c s .ports ∙ unseen-ports c e (step c s .answer) (s .ports); by-read = λ p n a out s. step-leaves (access (read p n a out)) s .ports }
 
 pub ports-stay-valid : PortsStayValid
 unfolding PortsStayValid
@@ -265,7 +286,21 @@ ports-stay-valid c s = step-leaves c s .ports-valid
 
 pub success-leaves : SuccessLeaves
 unfolding SuccessLeaves
-success-leaves c s = step-leaves c s .extended
+success-leaves c s u = step-leaves c s .extended
+
+pub sizes-stay : SizesStay
+unfolding SizesStay
+sizes-stay c s = go (step c s .answer) refl
+  where
+    go : (x : Answer) → step c s .answer ≡ x → SameSizes s (step c s .after)
+    go (refused k) e = subst (SameSizes s) (sym (step-leaves c s .refuses k e .leaves)) (record { sizes = refl; len = refl })
+    go (done g) e = step-leaves c s .extended (ap isRefused e) .same
+
+-- no call is upkeep yet
+pub no-upkeep : (c : Call) → isUpkeep c ≡ false
+no-upkeep (access c) = refl
+no-upkeep (nodeCall c) = refl
+no-upkeep (upkeep c) = absurd c
 
 pub stays-valid : StaysValid
 unfolding StaysValid
@@ -278,45 +313,45 @@ no-row-123 (d ∷ cs) c s k H P e = no-row-123 cs c (step d s .after) k (step-le
 
 pub fresh-leaves : FreshLeaves
 unfolding FreshLeaves fresh
-fresh-leaves given n w ws ps = (refusing (freshRows n w ws), taking (freshRows n w ws))
+fresh-leaves given z ws ps = (refusing (freshRows z ws), taking (freshRows z ws))
   where
-    refusing : (j k : ℕ) → freshUnless j given (freshRecord n w) ws ps .answer ≡ suc k → freshUnless j given (freshRecord n w) ws ps ≡ record { answer = suc k; rec = given; words = ws; ports = ps }
+    refusing : (j k : ℕ) → freshUnless j given (freshRecord z) ws ps .answer ≡ suc k → freshUnless j given (freshRecord z) ws ps ≡ record { answer = suc k; rec = given; words = ws; ports = ps }
     refusing zero k e = absurd (omega arith)
-    refusing (suc j) k e = ap (λ (z : ℕ). freshUnless z given (freshRecord n w) ws ps) e
+    refusing (suc j) k e = ap (λ (i : ℕ). freshUnless i given (freshRecord z) ws ps) e
 
-    taking : (j : ℕ) → freshUnless j given (freshRecord n w) ws ps .answer ≡ 0 → freshUnless j given (freshRecord n w) ws ps ≡ record { answer = 0; rec = freshRecord n w; words = withTerminals ws; ports = freshPorts }
+    taking : (j : ℕ) → freshUnless j given (freshRecord z) ws ps .answer ≡ 0 → freshUnless j given (freshRecord z) ws ps ≡ record { answer = 0; rec = freshRecord z; words = withTerminals ws; ports = freshPorts }
     taking zero e = refl
     taking (suc j) e = absurd (omega arith)
 
 -- what Fresh leaves where rows 1 and 2 accept: no entries, node 1 for both conditions, and node 1 in every port word
-abbrev begun : ℕ → ℕ → List ℕ → List ℕ → State
-begun n w ws l = record { rec = freshRecord n w; words = withTerminals ws; list = l; ports = freshPorts }
+abbrev begun : Sizes → List ℕ → List ℕ → State
+begun z ws l = record { rec = freshRecord z; words = withTerminals ws; list = l; ports = freshPorts }
 
-begun-valid : (n w : ℕ) (ws l : List ℕ) → row1 (freshRecord n w) ws ≡ true → w ≤ 16 → 6 ≤ length ws → Valid (begun n w ws l) × PortsValid (begun n w ws l)
+begun-valid : (z : Sizes) (ws l : List ℕ) → row1 (freshRecord z) ws ≡ true → z .w ≤ 16 → 6 ≤ length ws → Valid (begun z ws l) × PortsValid (begun z ws l)
 unfolding row1
-begun-valid n w ws l one wide room =
+begun-valid z ws l one wide room =
     let S = terminals-standard ws room in
     let u = is-user (withTerminals ws) 2 1 (omega arith) (from-1 8 S (omega arith)) in (
-      record { one = one; two = is-standard (withTerminals ws) 2 S; three = no-entries (freshRecord n w) (withTerminals ws) l refl u u },
-      users-ports (begun n w ws l) (length-replicate {A = ℕ} 128 1) (λ p a i b. rw (getD-replicate {A = ℕ} 128 (p * 32 + i) 1 0 (omega (arith, a, b, wide))) u),
+      record { one = one; two = is-standard (withTerminals ws) 2 S; three = no-entries (freshRecord z) (withTerminals ws) l refl u u },
+      users-ports (begun z ws l) (length-replicate {A = ℕ} 128 1) (λ p a i b. rw (getD-replicate {A = ℕ} 128 (p * 32 + i) 1 0 (omega (arith, a, b, wide))) u),
     )
 
 pub fresh-valid : FreshValid
 unfolding FreshValid fresh
-fresh-valid given n w ws ps l e = go (freshRows n w ws) refl e
+fresh-valid given z ws ps l e = go (freshRows z ws) refl e
   where
     after : ℕ → State
-    after k = let x = freshUnless k given (freshRecord n w) ws ps in record { rec = x .rec; words = x .words; list = l; ports = x .ports }
+    after k = let x = freshUnless k given (freshRecord z) ws ps in record { rec = x .rec; words = x .words; list = l; ports = x .ports }
 
-    go : (k : ℕ) → freshRows n w ws ≡ k → freshUnless k given (freshRecord n w) ws ps .answer ≡ 0 → Valid (after k) × PortsValid (after k)
+    go : (k : ℕ) → freshRows z ws ≡ k → freshUnless k given (freshRecord z) ws ps .answer ≡ 0 → Valid (after k) × PortsValid (after k)
     go zero q e =
-        let (range, rest) = fresh-told n w ws .none q in
-        begun-valid n w ws l (row1-tells (freshRecord n w) ws .so range) (range .w-most) (rest .0)
+        let (range, rest) = fresh-told z ws .none q in
+        begun-valid z ws l (row1-tells (freshRecord z) ws .so range) (range .w-most) (rest .0)
     go (suc k) q e = absurd (omega arith)
 
 pub fresh-no-row-123 : FreshNoRow123
 unfolding FreshNoRow123 FreshValid NoRow123
-fresh-no-row-123 given n w ws ps l e cs c k = let F = fresh-valid given n w ws ps l e in no-row-123 cs c (freshState given n w ws ps l) k (F .0) (F .1)
+fresh-no-row-123 given z ws ps l e cs c k = let F = fresh-valid given z ws ps l e in no-row-123 cs c (freshState given z ws ps l) k (F .0) (F .1)
 
 -- the words of a filled read, of n words
 abbrev WordBelow : Filling → ℕ → ℕ → Type 0
@@ -325,7 +360,7 @@ WordBelow fillsNone n c = Unit {0}
 
 module _ (p : ℕ) (e a out : List ℕ) (s : State) where
   abbrev Below : Result → Type 0
-  Below x = WordBelow (filling (x .answer)) (2 * s .rec .w) (x .after .rec .count)
+  Below x = WordBelow (filling (x .answer)) (2 * s .rec .sizes .w) (x .after .rec .count)
 
   read-acts : refusal (access (read p e a out)) s ≡ 0 → Below (closed s (finish (access (read p e a out)) s))
   unfolding finishAccess unlessFull closed
@@ -336,7 +371,7 @@ module _ (p : ℕ) (e a out : List ℕ) (s : State) where
       let x = Read R (s .list) (heldWord R (s .ports) p) (getD e 0 0) (getD e 1 0) a w (begin R) in
       go x (x .store .full) (X .post .size) (λ i h. X .post .halves .half i (omega (arith, X .post .size)) .below)
     where
-      go : (x : Outcome (List ℕ)) (f : Bool) → length (x .answer) ≡ 2 * s .rec .w → ((i : ℕ) → i < length (x .answer) → getD (x .answer) i 0 < x .store .count)
+      go : (x : Outcome (List ℕ)) (f : Bool) → length (x .answer) ≡ 2 * s .rec .sizes .w → ((i : ℕ) → i < length (x .answer) → getD (x .answer) i 0 < x .store .count)
           → Below (closed s (cond f (full (x .store)) (gives (filled (x .answer)) (withHeld (grown s (x .words) (x .store .count)) p (x .answer)))))
       go x true p q = tt
       go x false p q = (p, q)
@@ -349,5 +384,22 @@ module _ (p : ℕ) (e a out : List ℕ) (s : State) where
       go zero z = read-acts z
       go (suc k) z = tt
 
-  pub filled-below : {r : List ℕ} {t : State} → step (access (read p e a out)) s ≡ record { answer = done (filled r); after = t } → (length r ≡ 2 * s .rec .w) × ((i : ℕ) → i < length r → getD r i 0 < t .rec .count)
+  pub filled-below : {r : List ℕ} {t : State} → step (access (read p e a out)) s ≡ record { answer = done (filled r); after = t } → (length r ≡ 2 * s .rec .sizes .w) × ((i : ℕ) → i < length r → getD r i 0 < t .rec .count)
   filled-below f = subst Below f read-below
+
+  -- its answer words are as many as it was lent
+  read-long : length (answerWords (step (access (read p e a out)) s .answer) out) ≡ length out
+  unfolding step
+  read-long = go (refusal (access (read p e a out)) s) refl
+    where
+      filled-long : (f : Filling) (n c : ℕ) → WordBelow f n c → length out ≡ n → length (filledOver f out) ≡ length out
+      filled-long (fills r) n c W l = W .0 ∙ sym l
+      filled-long fillsNone n c W l = refl
+
+      go : (k : ℕ) → refusal (access (read p e a out)) s ≡ k → length (answerWords (turnedDownBy k s (closed s (finish (access (read p e a out)) s)) .answer) out) ≡ length out
+      go zero z = filled-long (filling (closed s (finish (access (read p e a out)) s) .answer)) _ (closed s (finish (access (read p e a out)) s) .after .rec .count) (read-acts z) (read-facts s p e a out z .answer-long)
+      go (suc k) z = refl
+
+pub answers-left : AnswersLeft
+unfolding AnswersLeft
+answers-left p e a out s = record { refuses = λ k q i. ap (λ (x : Answer). getD (answerWords x out) i 0) q; len = read-long p e a out s }

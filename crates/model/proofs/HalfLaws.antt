@@ -6,9 +6,10 @@ use Prim.Native.Nat.{ℕ, zero, suc, _+_, _*_, _≤_, _<_}
 use native.Mathlib.Omega.{arith}
 use lib.ListN.{length, getD, take}
 use lib.Seq.{take-suc}
-use Rattle.model.specs.Pairs.{Pair, X, admit, admits, known, unique, at}
-use Rattle.model.specs.Published.{Entry, union, over, scan, cell, anywhere, look, holding, inside}
-use Rattle.model.proofs.MeansLaws.{placed, place, anywhere-same, any-place}
+use Rattle.semantics.specs.Pairs.{Pair, X, admit, admits, known, unique, at}
+use Rattle.semantics.specs.Published.{Entry, union, over, scan, cell, anywhere, look, holding, inside}
+use Rattle.semantics.proofs.PairLaws.{anywhere-same}
+use Rattle.model.proofs.MeansLaws.{placed, place, any-place}
 
 -- half h of a word: h of bit h / 2, or l
 abbrev pub halfOf : ℕ → (ℕ → Pair) → Bool

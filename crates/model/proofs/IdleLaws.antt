@@ -5,8 +5,8 @@ use mathlib.Core.List.{List}
 use Prim.Native.Nat.{ℕ, zero, suc}
 use native.Mathlib.Omega.{arith}
 use lib.ListN.{getD}
-use Rattle.model.specs.Step.{State, write, read, assert, check, evaluate, variable, ite, conditions, Call, access, nodeCall, Given, place, idle, filled, entered, kept, accepted, valued, node, triples, Answer, refused, done, Result, refusal, Finish, full, short, gives, closed, isIdle, finishAccess, finishNode, finish, turnedDownBy, step}
-use Rattle.model.specs.Frames.{isWrite, IdleLeaves}
+use Rattle.model.specs.Step.{State, write, read, assert, check, evaluate, variable, ite, conditions, Call, access, nodeCall, upkeep, Given, place, idle, filled, entered, kept, accepted, valued, node, triples, Answer, refused, done, Result, refusal, Finish, full, short, gives, closed, isIdle, finishAccess, finishNode, finish, turnedDownBy, step, isKind}
+use Rattle.model.specs.Frames.{IdleLeaves}
 use Rattle.model.specs.Table.{WriteFacts, NeverOne, MayBeOne, IdleExactly}
 use Rattle.model.specs.Meanings.{KeptWhereNever}
 use Rattle.model.proofs.TerminalLaws.{node-0-alone, somewhere-true, idle-zero, other-not-zero}
@@ -54,7 +54,7 @@ answersIdle (done g) = givesIdle g
 abbrev Idles : Call → State → Finish → Type 0
 Idles c s (full t) = Unit {0}
 Idles c s short = Unit {0}
-Idles c s (gives g t) = givesIdle g ≡ true → (isWrite c ≡ true) × (t ≡ s)
+Idles c s (gives g t) = givesIdle g ≡ true → (isKind 1 c ≡ true) × (t ≡ s)
 
 finish-idles : (c : Call) (s : State) → Idles c s (finish c s)
 unfolding finishAccess finishNode
@@ -66,17 +66,18 @@ finish-idles (nodeCall (evaluate f a)) s = λ z. absurd (false≢true z)
 finish-idles (nodeCall (variable v)) s = of-program (Idles (nodeCall (variable v)) s) _ _ (λ f. tt) (λ f z. absurd (false≢true z))
 finish-idles (nodeCall (ite f g h)) s = of-program (Idles (nodeCall (ite f g h)) s) _ _ (λ f. tt) (λ f z. absurd (false≢true z))
 finish-idles (nodeCall (conditions t)) s = of-program (Idles (nodeCall (conditions t)) s) _ _ (λ f. tt) (λ f z. absurd (false≢true z))
+finish-idles (upkeep c) s = absurd c
 
 pub idle-leaves : IdleLeaves
 unfolding IdleLeaves step closed
 idle-leaves c s e = go (refusal c s) e
   where
-    ended : (x : Finish) → Idles c s x → answersIdle (closed s x .answer) ≡ true → (isWrite c ≡ true) × (closed s x .after ≡ s)
+    ended : (x : Finish) → Idles c s x → answersIdle (closed s x .answer) ≡ true → (isKind 1 c ≡ true) × (closed s x .after ≡ s)
     ended (full t) h e = absurd (false≢true e)
     ended short h e = absurd (false≢true e)
     ended (gives g t) h e = h e
 
-    go : (k : ℕ) → turnedDownBy k s (closed s (finish c s)) .answer ≡ done idle → (isWrite c ≡ true) × (turnedDownBy k s (closed s (finish c s)) .after ≡ s)
+    go : (k : ℕ) → turnedDownBy k s (closed s (finish c s)) .answer ≡ done idle → (isKind 1 c ≡ true) × (turnedDownBy k s (closed s (finish c s)) .after ≡ s)
     go zero e = ended (finish c s) (finish-idles c s) (ap answersIdle e)
     go (suc k) e = absurd (false≢true (ap answersIdle e))
 

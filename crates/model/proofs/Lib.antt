@@ -1,8 +1,4 @@
-pub mod PairLaws
-pub mod ExactLaws
-pub mod RunLaws
 pub mod MeansLaws
-pub mod KeptLaws
 pub mod HalfLaws
 pub mod AccessLaws
 pub mod ListLaws
@@ -28,6 +24,7 @@ pub mod BudgetLaws
 pub mod ChainLaws
 pub mod RulingLaws
 pub mod StayLaws
+pub mod StandLaws
 pub mod UnseenLaws
 pub mod NineLaws
 pub mod TableLaws

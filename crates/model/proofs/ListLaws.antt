@@ -43,23 +43,23 @@ module _ (r : Record) (l : List ℕ) (j : ℕ) where
   pub entry-word : (k : ℕ) → k < size r → getD (entryAt r l j) k 0 ≡ getD l (j * size r + k) 0
   entry-word k h = part-word l (j * size r) (j * size r + size r) k (omega arith)
 
-  pub entry-address : (k : ℕ) → k < 2 * r .n → getD (addressOf r (entryAt r l j)) k 0 ≡ getD l (j * size r + (2 + k)) 0
-  entry-address k h = part-word (entryAt r l j) 2 (2 + 2 * r .n) k (omega arith) ∙ entry-word (2 + k) (omega arith)
+  pub entry-address : (k : ℕ) → k < 2 * r .sizes .n → getD (addressOf r (entryAt r l j)) k 0 ≡ getD l (j * size r + (2 + k)) 0
+  entry-address k h = part-word (entryAt r l j) 2 (2 + 2 * r .sizes .n) k (omega arith) ∙ entry-word (2 + k) (omega arith)
 
-  pub entry-data : (k : ℕ) → k < 2 * r .w → getD (dataOf r (entryAt r l j)) k 0 ≡ getD l (j * size r + (2 + 2 * r .n + k)) 0
-  entry-data k h = part-word (entryAt r l j) (2 + 2 * r .n) (size r) k (omega arith) ∙ entry-word (2 + 2 * r .n + k) (omega arith)
+  pub entry-data : (k : ℕ) → k < 2 * r .sizes .w → getD (dataOf r (entryAt r l j)) k 0 ≡ getD l (j * size r + (2 + 2 * r .sizes .n + k)) 0
+  entry-data k h = part-word (entryAt r l j) (2 + 2 * r .sizes .n) (size r) k (omega arith) ∙ entry-word (2 + 2 * r .sizes .n + k) (omega arith)
 
 -- the parts of an entry as it is appended
-module _ (r : Record) (h s : ℕ) (a d : List ℕ) (na : length a ≡ 2 * r .n) (wd : length d ≡ 2 * r .w) where
+module _ (r : Record) (h s : ℕ) (a d : List ℕ) (na : length a ≡ 2 * r .sizes .n) (wd : length d ≡ 2 * r .sizes .w) where
   pub new-address : addressOf r (h ∷ s ∷ (a ++ d)) ≡ a
-  new-address = take-at a d (2 + 2 * r .n - 2) (omega arith)
+  new-address = take-at a d (2 + 2 * r .sizes .n - 2) (omega arith)
 
   pub new-data : dataOf r (h ∷ s ∷ (a ++ d)) ≡ d
-  new-data = rw (drop-at (h ∷ s ∷ a) d (2 + 2 * r .n) (omega arith)) (take-all (size r - (2 + 2 * r .n)) d (omega arith))
+  new-data = rw (drop-at (h ∷ s ∷ a) d (2 + 2 * r .sizes .n) (omega arith)) (take-all (size r - (2 + 2 * r .sizes .n)) d (omega arith))
 
 -- the list after an entry was appended
 module _ (r : Record) (l : List ℕ) (h s : ℕ) (a d : List ℕ)
-    (na : length a ≡ 2 * r .n) (wd : length d ≡ 2 * r .w) (room : r .entries < listCapacity r l) where
+    (na : length a ≡ 2 * r .sizes .n) (wd : length d ≡ 2 * r .sizes .w) (room : r .entries < listCapacity r l) where
   new-words : r .entries * size r + size r ≤ length l
   new-words = rw next-words at (room-words r l room)
 

@@ -19,8 +19,8 @@ use Rattle.conditions.specs.Assignment.{some}
 use Rattle.conditions.specs.Meaning.{Meaning, From, Stands, Builds}
 use Rattle.conditions.specs.User.{isUser}
 use Rattle.conditions.proofs.Promises.{from-less, from-1, builds-weaker, was-free, keep, stands-value, stands-1, ite-builds, not-builds, and-builds, or-builds, any-builds, variable-builds, some-has, some-all, user-stands, stands-turns, value-1}
-use Rattle.model.specs.Published.{anywhere}
-use Rattle.model.proofs.PairLaws.{either, or-left, or-right, eq→T, T→eq, anywhere-from}
+use Rattle.semantics.specs.Published.{anywhere}
+use Rattle.semantics.proofs.PairLaws.{or-left, or-right, eq→T, T→eq, anywhere-from, anywhere-sized, anywhere-same}
 
 -- τ is σ but for the index variables
 pub record Near (σ τ : ℕ → Bool) : Type 0 where
@@ -140,19 +140,6 @@ take-at-0 (suc n) x τ h = ap (λ (l : List Bool). l ++ (getD x n (τ n) ∷ [])
     last (suc n) (b ∷ x) d h = ap {B = List Bool} (λ l. b ∷ l) (last n x d (omega arith))
 
 -- some location, with its number of bits
-anywhere-sized : (n : ℕ) (f : List Bool → Bool) → T (anywhere n f) → (x : List Bool) × (length x ≡ n) × T (f x)
-anywhere-sized zero f t = ([], refl, t)
-anywhere-sized (suc n) f t =
-    either (anywhere n (λ x. f (false ∷ x))) (anywhere n (λ x. f (true ∷ x))) t
-    (λ s. let r = anywhere-sized n (λ x. f (false ∷ x)) s in (false ∷ r .0, ap suc (r .1), r .2))
-    (λ s. let r = anywhere-sized n (λ x. f (true ∷ x)) s in (true ∷ r .0, ap suc (r .1), r .2))
-
-pub anywhere-same : (n : ℕ) (f g : List Bool → Bool) → ((x : List Bool) → length x ≡ n → f x ≡ g x) → anywhere n f ≡ anywhere n g
-anywhere-same n f g e =
-    iff-same (anywhere n f) (anywhere n g)
-    (λ t. let r = anywhere-sized n f (eq→T t) in T→eq (anywhere n g) (anywhere-from n g (r .0) (r .1) (eq→T (sym (e (r .0) (r .1)) ∙ T→eq (f (r .0)) (r .2)))))
-    (λ t. let r = anywhere-sized n g (eq→T t) in T→eq (anywhere n f) (anywhere-from n f (r .0) (r .1) (eq→T (e (r .0) (r .1) ∙ T→eq (g (r .0)) (r .2)))))
-
 -- a search over k bits of what turns on n of them
 anywhere-take : (k n : ℕ) → n ≤ k → (F : List Bool → Bool) → anywhere k (λ x. F (take n x)) ≡ anywhere n F
 anywhere-take zero zero h F = refl

@@ -17,9 +17,9 @@ use Rattle.conditions.proofs.Promises.{standard-within, pure-fills, next-fills,
 use Rattle.model.specs.Record.{Record, hAt, lAt, entryAt, addressOf, dataOf, heldWord}
 use Rattle.model.specs.Access.{uniqueBit, Unique, Certain, Write, narrowBit, Narrow, halfStep, EachHalf, mergeHalf, entryStep, settleHalf, Look, Read, insideHalf, Inside, Check, AssertBuilt, Assert, holdHalf}
 use Rattle.model.specs.Rows.{spaceFor}
-use Rattle.model.specs.Step.{State, write, read, assert, check, evaluate, variable, ite, conditions, Call, access, nodeCall, Given, valued, isRefused, refused, refusal, Finish, full, short, gives, closed, unlessFull, begin, grown, withEntry, withCheckCondition, assertFirst, enter, isIdle, finishWrite, finishAccess, finishNode, finish, turnedDownBy, step, withHeld}
+use Rattle.model.specs.Step.{State, write, read, assert, check, evaluate, variable, ite, conditions, Call, access, nodeCall, upkeep, Given, valued, isRefused, refused, refusal, Finish, full, short, gives, closed, unlessFull, begin, grown, withEntry, withCheckCondition, assertFirst, enter, isIdle, finishWrite, finishAccess, finishNode, finish, turnedDownBy, step, withHeld}
 use Rattle.model.specs.Frames.{lateRow, NineAtCapacity}
-use Rattle.model.specs.Table.{withMore, InMore, NineExactly}
+use Rattle.model.specs.Table.{withMore, InMore, NineOf, NineExactly}
 use Rattle.model.proofs.FactLaws.{call-standard, call-told}
 use Rattle.model.proofs.FinishLaws.{of-program, of-write, of-assert}
 use Rattle.model.proofs.FrameLaws.{plain, rows-plain}
@@ -53,23 +53,23 @@ halves-fills f F k r = each-fills _ (λ j r. next-fills (F j (getD r j 0)) (λ x
 entry-fills : (r : Record) (inside : ℕ) (entry word : List ℕ) → Fills (entryStep r inside entry word)
 unfolding entryStep mergeHalf
 entry-fills r inside entry word =
-    next-fills (narrow-fills (r .n) (addressOf r entry) inside)
+    next-fills (narrow-fills (r .sizes .n) (addressOf r entry) inside)
     (λ m. next-fills (ite-fills m (getD entry 0 0) 0)
     (λ hm. next-fills (ite-fills m (getD entry 1 0) 0)
-    (λ sm. halves-fills _ (λ k x. next-fills (ite-fills (getD (dataOf r entry) k 0) 1 x) (λ y. next-fills (ite-fills sm y x) (λ z. ite-fills hm (getD (dataOf r entry) k 0) z))) (2 * r .w) word)))
+    (λ sm. halves-fills _ (λ k x. next-fills (ite-fills (getD (dataOf r entry) k 0) 1 x) (λ y. next-fills (ite-fills sm y x) (λ z. ite-fills hm (getD (dataOf r entry) k 0) z))) (2 * r .sizes .w) word)))
 
 look-fills : (r : Record) (l a : List ℕ) → Fills (Look r l a)
 unfolding Look settleHalf
 look-fills r l a =
-    next-fills (narrow-fills (r .n) a 1)
+    next-fills (narrow-fills (r .sizes .n) a 1)
     (λ inside. next-fills (each-fills _ (λ j. entry-fills r inside (entryAt r l j)) 0 (r .entries) _)
-    (λ word. halves-fills _ (λ k x. next-fills (ite-fills inside x 0) (λ y. any-fills y)) (2 * r .w) word))
+    (λ word. halves-fills _ (λ k x. next-fills (ite-fills inside x 0) (λ y. any-fills y)) (2 * r .sizes .w) word))
 
 read-fills : (r : Record) (l held : List ℕ) (h e : ℕ) (a : List ℕ) → Fills (Read r l held h e a)
 unfolding Read holdHalf
 read-fills r l held h e a =
     next-fills (look-fills r l a)
-    (λ word. next-fills (ite-fills h e 0) (λ c. halves-fills _ (λ k x. next-fills (ite-fills c x h) (λ t. ite-fills t x (getD held k 0))) (2 * r .w) word))
+    (λ word. next-fills (ite-fills h e 0) (λ c. halves-fills _ (λ k x. next-fills (ite-fills c x h) (λ t. ite-fills t x (getD held k 0))) (2 * r .sizes .w) word))
 
 inside-fills : (k : ℕ) (x y : List ℕ) → Fills (Inside k x y)
 unfolding Inside insideHalf
@@ -79,17 +79,17 @@ check-fills : (r : Record) (l : List ℕ) (b : ℕ) (a d : List ℕ) → Fills (
 unfolding Check
 check-fills r l b a d =
     next-fills (look-fills r l a)
-    (λ word. next-fills (inside-fills (2 * r .w) word d) (λ c. next-fills (ite-fills b 0 1) (λ x. next-fills (ite-fills x 1 c) (λ y. ite-fills (r .checked) y 0))))
+    (λ word. next-fills (inside-fills (2 * r .sizes .w) word d) (λ c. next-fills (ite-fills b 0 1) (λ x. next-fills (ite-fills x 1 c) (λ y. ite-fills (r .checked) y 0))))
 
 assert-fills : (r : Record) (l : List ℕ) (b : ℕ) (a d : List ℕ) → Fills (Assert r l b a d)
 unfolding Assert
 assert-fills r l b a d =
     next-fills (look-fills r l a)
-    (λ word. next-fills (inside-fills (2 * r .w) d word)
+    (λ word. next-fills (inside-fills (2 * r .sizes .w) d word)
     (λ x. next-fills (ite-fills b 0 1)
     (λ v. next-fills (ite-fills v 1 x)
     (λ y. next-fills (ite-fills (r .asserted) y 0)
-    (λ condition. next-fills (inside-fills (2 * r .w) word d) (λ c. next-fills (ite-fills x c 0) (λ z. next-fills (ite-fills v 1 z) (λ k. pure-fills _))))))))
+    (λ condition. next-fills (inside-fills (2 * r .sizes .w) word d) (λ c. next-fills (ite-fills x c 0) (λ z. next-fills (ite-fills v 1 z) (λ k. pure-fills _))))))))
 
 module _ (s : State) (S : Standard (s .words) (s .rec .count)) where
   abbrev capacity : ℕ
@@ -111,19 +111,20 @@ module _ (s : State) (S : Standard (s .words) (s .rec .count)) where
   finish-met : (c : Call) → Met (finish c s)
   unfolding finishAccess finishNode
   finish-met (access (write c a d)) =
-      let X = from (write-fills (s .rec .n) (getD c 0 0) (getD c 1 0) a) in
+      let X = from (write-fills (s .rec .sizes .n) (getD c 0 0) (getD c 1 0) a) in
       of-write Met c a d s (λ i. standard-within S .most) (λ i f. X .at-capacity f) (λ i f r. X .most) (λ i f r. tt)
   finish-met (access (read p e a out)) = alone-met (read-fills (s .rec) (s .list) (heldWord (s .rec) (s .ports) p) (getD e 0 0) (getD e 1 0) a) _ _ (λ a w c. refl)
   finish-met (access (check b a d)) = alone-met (check-fills (s .rec) (s .list) b a d) _ _ (λ a w c. refl)
   finish-met (access (assert b a d)) =
       let x = assertFirst b a d s in
       let X = from (assert-fills (s .rec) (s .list) b a d) in
-      let Y = write-fills (s .rec .n) b (x .answer .notB) a .within capacity (x .words) (record { count = x .store .count; full = false }) (record { capacity = X .capacity; most = X .most; at-capacity = λ e. absurd (false≢true e) }) in
+      let Y = write-fills (s .rec .sizes .n) b (x .answer .notB) a .within capacity (x .words) (record { count = x .store .count; full = false }) (record { capacity = X .capacity; most = X .most; at-capacity = λ e. absurd (false≢true e) }) in
       of-assert Met b a d s (X .at-capacity) (λ f k. X .most) (λ f k r. tt) (λ f k r g. Y .at-capacity g) (λ f k r g. Y .most)
   finish-met (nodeCall (evaluate f a)) = standard-within S .most
   finish-met (nodeCall (variable v)) = alone-met (variable-fills v) _ _ (λ a w c. refl)
   finish-met (nodeCall (ite f g h)) = alone-met (ite-fills f g h) _ _ (λ a w c. refl)
   finish-met (nodeCall (conditions t)) = alone-met (triples-fill 0 1 t) _ _ (λ a w c. refl)
+  finish-met (upkeep c) = absurd c
 
   at-nine : (x : Finish) → Met x → lateRow x ≡ 9 → (t : Store) × (x ≡ full t) × (t .count ≡ capacity)
   at-nine (full t) m e = (t, refl, m)
@@ -209,14 +210,14 @@ module _ (k : ℕ) (s : State) where
       x : Outcome AssertBuilt
       x = assertFirst b a d s
 
-      W : (q : AssertBuilt) → Fills (Write (s .rec .n) b (q .notB) a)
-      W q = write-fills (s .rec .n) b (q .notB) a
+      W : (q : AssertBuilt) → Fills (Write (s .rec .sizes .n) b (q .notB) a)
+      W q = write-fills (s .rec .sizes .n) b (q .notB) a
 
       late : (q : AssertBuilt) (w : List ℕ) (c : ℕ) → capacityOf (s .words) < c → Past (enter more b a d q w c)
       late q w c l =
           split (eqb (q .keep) 1) (λ t. rw t l)
           (λ t. split (spaceFor (s .rec) (s .words) 1 (s .list))
-          (λ r. rw (t, r) (past-gives (Write (s .rec .n) b (q .notB) a w (record { count = c; full = false })) _ _ (λ a w c. refl) (omega (arith, l, W q .grows w (record { count = c; full = false })))))
+          (λ r. rw (t, r) (past-gives (Write (s .rec .sizes .n) b (q .notB) a w (record { count = c; full = false })) _ _ (λ a w c. refl) (omega (arith, l, W q .grows w (record { count = c; full = false })))))
           (λ r. rw (t, r) tt))
 
       on : x .store .full ≡ false → Beside (enter s b a d (x .answer) (x .words) (x .store .count)) (enter more b a d (x .answer) (longer k (x .words)) (x .store .count))
@@ -229,7 +230,7 @@ module _ (k : ℕ) (s : State) where
   finish-beside : (c : Call) → Beside (finish c s) (finish c more)
   unfolding finishAccess finishWrite finishNode
   finish-beside (access (write c a d)) =
-      let F = write-fills (s .rec .n) (getD c 0 0) (getD c 1 0) a in
+      let F = write-fills (s .rec .sizes .n) (getD c 0 0) (getD c 1 0) a in
       split (isIdle c) (λ i. rw i refl)
       (λ i. split (spaceFor (s .rec) (s .words) 1 (s .list))
       (λ r. rw (i, r) (alone-beside F _ (λ s m w c. withEntry (grown s w c) m a d) (λ a w c. refl) (λ a w c. refl)))
@@ -241,6 +242,7 @@ module _ (k : ℕ) (s : State) where
   finish-beside (nodeCall (variable v)) = alone-beside (variable-fills v) _ (λ s n w c. grown s w c) (λ a w c. refl) (λ a w c. refl)
   finish-beside (nodeCall (ite f g h)) = alone-beside (ite-fills f g h) _ (λ s n w c. grown s w c) (λ a w c. refl) (λ a w c. refl)
   finish-beside (nodeCall (conditions t)) = alone-beside (triples-fill 0 1 t) _ (λ s ts w c. grown s w c) (λ a w c. refl) (λ a w c. refl)
+  finish-beside (upkeep c) = absurd c
 
   -- what it answers and leaves, here and there
   record ClosedBeside (x y : Finish) : Type 0 where
@@ -260,9 +262,9 @@ module _ (k : ℕ) (s : State) where
     closed-beside short y m h a = absurd (true≢false (subst (λ (z : Finish). isRefused (closed more z .answer) ≡ false) h a))
     closed-beside (gives g t) y m h a = subst (ClosedBeside (gives g t)) (sym h) (record { fits = λ f. refl; nine = λ f. absurd (omega (arith, m, f)) })
 
-pub nine-exactly : NineExactly
-unfolding NineExactly step
-nine-exactly c s k A = go (refusal c (withMore k s)) refl
+nine-of : (c : Call) → NineOf c
+unfolding step
+nine-of c s k A = go (refusal c (withMore k s)) refl
   where
     z : refusal c s ≡ 0
     z = call-told c s .all A
@@ -275,3 +277,6 @@ nine-exactly c s k A = go (refusal c (withMore k s)) refl
         let B = closed-beside k s S (finish c s) (finish c (withMore k s)) (finish-met s S c) (finish-beside k s c) (rw r at a) in
         record { fits = rw (r, z) (B .fits); nine = rw (r, z) (B .nine) }
     go (suc j) r a = absurd (true≢false (rw r at a))
+
+pub nine-exactly : NineExactly
+nine-exactly = record { accesses = λ c. nine-of (access c); node-calls = λ c. nine-of (nodeCall c) }

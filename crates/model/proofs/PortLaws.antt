@@ -14,11 +14,11 @@ use Rattle.model.proofs.HalfLaws.{halfOf, half-same}
 use Rattle.model.proofs.ListLaws.{part-size, part-word}
 
 -- word i of what port p holds
-pub held-at : (r : Record) (ps : List ℕ) (p i : ℕ) → i < 2 * r .w → getD (heldWord r ps p) i 0 ≡ getD ps (p * 32 + i) 0
-held-at r ps p i h = part-word ps (p * 32) (p * 32 + 2 * r .w) i (omega arith)
+pub held-at : (r : Record) (ps : List ℕ) (p i : ℕ) → i < 2 * r .sizes .w → getD (heldWord r ps p) i 0 ≡ getD ps (p * 32 + i) 0
+held-at r ps p i h = part-word ps (p * 32) (p * 32 + 2 * r .sizes .w) i (omega arith)
 
-pub held-length : (r : Record) (ps : List ℕ) (p : ℕ) → length ps ≡ 128 → r .w ≤ 16 → p ≤ 3 → length (heldWord r ps p) ≡ 2 * r .w
-held-length r ps p long wide port = part-size ps (p * 32) (2 * r .w) (omega (arith, long, wide, port))
+pub held-length : (r : Record) (ps : List ℕ) (p : ℕ) → length ps ≡ 128 → r .sizes .w ≤ 16 → p ≤ 3 → length (heldWord r ps p) ≡ 2 * r .sizes .w
+held-length r ps p long wide port = part-size ps (p * 32) (2 * r .sizes .w) (omega (arith, long, wide, port))
 
 -- reading past the first of two lists
 getD-past : (l m : List ℕ) (i : ℕ) → length l ≤ i → getD (l ++ m) i 0 ≡ getD m (i - length l) 0

@@ -12,7 +12,7 @@ use Rattle.conditions.specs.Meaning.{Builds}
 use Rattle.conditions.proofs.Promises.{clear-extends, extends-trans, is-user}
 use Rattle.model.specs.Record.{Record, withCount, heldWord}
 use Rattle.model.specs.Access.{Write, Read, Check}
-use Rattle.model.specs.Published.{entry, answer, assertHolds, checkHolds, keeps}
+use Rattle.semantics.specs.Published.{entry, answer, assertHolds, checkHolds, keeps}
 use Rattle.model.specs.Step.{State, begin, assertFirst}
 use Rattle.model.specs.Claims.{pairAt, pairs}
 use Rattle.model.specs.Meanings.{entryValues, portValue}
@@ -32,48 +32,48 @@ module _ (σ : ℕ → Bool) (s : State) where
   abbrev w : List ℕ
   w = s .words
 
-  pub write-program : (c a d : List ℕ) → WriteFacts s c a d → Builds w (begin r) (MarksMean σ (entry (pairAt σ w c 0) (pairs σ w a (r .n)) (pairs σ w d (r .w)))) (Write (r .n) (getD c 0 0) (getD c 1 0) a w (begin r))
+  pub write-program : (c a d : List ℕ) → WriteFacts s c a d → Builds w (begin r) (MarksMean σ (entry (pairAt σ w c 0) (pairs σ w a (r .sizes .n)) (pairs σ w d (r .sizes .w)))) (Write (r .sizes .n) (getD c 0 0) (getD c 1 0) a w (begin r))
   write-program c a d F =
       let S = F .memory .standard in
       let C = names-halves σ r w S c 1 (F .enable .names) in
-      write-means (r .n) (getD c 0 0) (getD c 1 0) a (pairAt σ w c 0) (pairs σ w a (r .n)) (pairs σ w d (r .w)) (length-pairs σ w a 0 (r .n)) w (begin r) S (C .half 0 (omega arith)) (C .half 1 (omega arith)) (names-halves σ r w S a (r .n) (F .address .names))
+      write-means (r .sizes .n) (getD c 0 0) (getD c 1 0) a (pairAt σ w c 0) (pairs σ w a (r .sizes .n)) (pairs σ w d (r .sizes .w)) (length-pairs σ w a 0 (r .sizes .n)) w (begin r) S (C .half 0 (omega arith)) (C .half 1 (omega arith)) (names-halves σ r w S a (r .sizes .n) (F .address .names))
 
   -- the word of a port, where no port has one that row 3 refuses
-  pub port-halves : (p : ℕ) → p < 4 → Standard w (r .count) → AllHoldNodes r w (s .ports) → Halves σ 8 (2 * r .w) (λ τ. portValue σ s p) w (begin r) (heldWord r (s .ports) p)
+  pub port-halves : (p : ℕ) → p < 4 → Standard w (r .count) → AllHoldNodes r w (s .ports) → Halves σ 8 (2 * r .sizes .w) (λ τ. portValue σ s p) w (begin r) (heldWord r (s .ports) p)
   port-halves p four S N = record { half = λ h l. means-as (name-means σ r w S (rw (held-at r (s .ports) p h l) (N p four h l))) (λ τ. half-at σ w (heldWord r (s .ports) p) h) }
 
   pub read-program : (p : ℕ) (e a out : List ℕ) → ReadFacts s p e a out
-      → Builds w (begin r) (Word σ 8 (2 * r .w) (λ τ. answer (r .n) (entryValues σ s) (portValue σ s p) (pairAt σ w e 0) (pairs σ w a (r .n)))) (Read r (s .list) (heldWord r (s .ports) p) (getD e 0 0) (getD e 1 0) a w (begin r))
+      → Builds w (begin r) (Word σ 8 (2 * r .sizes .w) (λ τ. answer (r .sizes) (entryValues σ s) (portValue σ s p) (pairAt σ w e 0) (pairs σ w a (r .sizes .n)))) (Read r (s .list) (heldWord r (s .ports) p) (getD e 0 0) (getD e 1 0) a w (begin r))
   read-program p e a out F =
       let S = F .memory .standard in
       let C = names-halves σ r w S e 1 (F .enable .names) in
-      read-means r (s .list) (F .memory .range .n-most) (entryValues σ s) (getD e 0 0) (getD e 1 0) (heldWord r (s .ports) p) a (pairAt σ w e 0) (portValue σ s p) (pairs σ w a (r .n)) (length-pairs σ w a 0 (r .n)) w (begin r) S
-      (holds-values σ s (F .memory) .entries) (C .half 0 (omega arith)) (C .half 1 (omega arith)) (port-halves p (omega (arith, F .port)) S (F .ports)) (names-halves σ r w S a (r .n) (F .address .names))
+      read-means r (s .list) (F .memory .range .n-most) (entryValues σ s) (getD e 0 0) (getD e 1 0) (heldWord r (s .ports) p) a (pairAt σ w e 0) (portValue σ s p) (pairs σ w a (r .sizes .n)) (length-pairs σ w a 0 (r .sizes .n)) w (begin r) S
+      (holds-values σ s (F .memory) .entries) (C .half 0 (omega arith)) (C .half 1 (omega arith)) (port-halves p (omega (arith, F .port)) S (F .ports)) (names-halves σ r w S a (r .sizes .n) (F .address .names))
 
   module _ (b : ℕ) (a d : List ℕ) (F : CheckFacts s b a d) where
     abbrev S : Standard w (r .count)
     S = F .memory .standard
 
-    pub check-program : Builds w (begin r) (Means σ 8 (λ τ. value w σ (r .checked) && checkHolds (r .n) (r .w) (entryValues σ s) (value w σ b) (pairs σ w a (r .n)) (pairs σ w d (r .w)))) (Check r (s .list) b a d w (begin r))
+    pub check-program : Builds w (begin r) (Means σ 8 (λ τ. value w σ (r .checked) && checkHolds (r .sizes) (entryValues σ s) (value w σ b) (pairs σ w a (r .sizes .n)) (pairs σ w d (r .sizes .w)))) (Check r (s .list) b a d w (begin r))
     check-program =
-        check-means r (s .list) (F .memory .range .n-most) (entryValues σ s) b (value w σ b) (value w σ (r .checked)) a d (pairs σ w a (r .n)) (pairs σ w d (r .w)) (length-pairs σ w a 0 (r .n)) w (begin r) S
-        (holds-values σ s (F .memory) .entries) (name-means σ r w S (F .control)) (names-halves σ r w S a (r .n) (F .address .names)) (names-halves σ r w S d (r .w) (F .word .names)) (name-means σ r w S (F .memory .listed .checked))
+        check-means r (s .list) (F .memory .range .n-most) (entryValues σ s) b (value w σ b) (value w σ (r .checked)) a d (pairs σ w a (r .sizes .n)) (pairs σ w d (r .sizes .w)) (length-pairs σ w a 0 (r .sizes .n)) w (begin r) S
+        (holds-values σ s (F .memory) .entries) (name-means σ r w S (F .control)) (names-halves σ r w S a (r .sizes .n) (F .address .names)) (names-halves σ r w S d (r .sizes .w) (F .word .names)) (name-means σ r w S (F .memory .listed .checked))
 
-    pub assert-program : Builds w (begin r) (AssertBuiltMean σ (value w σ (r .asserted) && assertHolds (r .n) (r .w) (entryValues σ s) (value w σ b) (pairs σ w a (r .n)) (pairs σ w d (r .w))) (not (value w σ b)) (keeps (r .n) (r .w) (entryValues σ s) (value w σ b) (pairs σ w a (r .n)) (pairs σ w d (r .w)))) (assertFirst b a d s)
+    pub assert-program : Builds w (begin r) (AssertBuiltMean σ (value w σ (r .asserted) && assertHolds (r .sizes) (entryValues σ s) (value w σ b) (pairs σ w a (r .sizes .n)) (pairs σ w d (r .sizes .w))) (not (value w σ b)) (keeps (r .sizes) (entryValues σ s) (value w σ b) (pairs σ w a (r .sizes .n)) (pairs σ w d (r .sizes .w)))) (assertFirst b a d s)
     assert-program =
-        assert-means r (s .list) (F .memory .range .n-most) (entryValues σ s) b (value w σ b) (value w σ (r .asserted)) a d (pairs σ w a (r .n)) (pairs σ w d (r .w)) (length-pairs σ w a 0 (r .n)) w (begin r) S
-        (holds-values σ s (F .memory) .entries) (name-means σ r w S (F .control)) (names-halves σ r w S a (r .n) (F .address .names)) (names-halves σ r w S d (r .w) (F .word .names)) (name-means σ r w S (F .memory .listed .asserted))
+        assert-means r (s .list) (F .memory .range .n-most) (entryValues σ s) b (value w σ b) (value w σ (r .asserted)) a d (pairs σ w a (r .sizes .n)) (pairs σ w d (r .sizes .w)) (length-pairs σ w a 0 (r .sizes .n)) w (begin r) S
+        (holds-values σ s (F .memory) .entries) (name-means σ r w S (F .control)) (names-halves σ r w S a (r .sizes .n) (F .address .names)) (names-halves σ r w S d (r .sizes .w) (F .word .names)) (name-means σ r w S (F .memory .listed .asserted))
 
     -- the Write of an entry after it: whatever grew past the count is gone when it is cleared
-    pub assert-entry-clears : let x = assertFirst b a d s in clearOf (Write (r .n) b (x .answer .notB) a (x .words) (record { count = x .store .count; full = false }) .words) (r .count) ≡ clearOf w (r .count)
+    pub assert-entry-clears : let x = assertFirst b a d s in clearOf (Write (r .sizes .n) b (x .answer .notB) a (x .words) (record { count = x .store .count; full = false }) .words) (r .count) ≡ clearOf w (r .count)
     assert-entry-clears =
         let X = assert-program in
         let x = assertFirst b a d s in
         let t : Store = record { count = x .store .count; full = false } in
         let v = x .answer .notB in
         let T = withCount r (x .store .count) in
-        let ua = users-tell r w a (2 * r .n) (F .address .long) .so (F .address .names) in
-        let Y = write-means (r .n) b v a (record { h = value (x .words) σ b; l = value (x .words) σ v }) (pairs σ (x .words) a (r .n)) [] (length-pairs σ (x .words) a 0 (r .n)) (x .words) t (X .standard)
+        let ua = users-tell r w a (2 * r .sizes .n) (F .address .long) .so (F .address .names) in
+        let Y = write-means (r .sizes .n) b v a (record { h = value (x .words) σ b; l = value (x .words) σ v }) (pairs σ (x .words) a (r .sizes .n)) [] (length-pairs σ (x .words) a 0 (r .sizes .n)) (x .words) t (X .standard)
         (user-means {s = t} (X .standard) (user-grows (X .extends) b (names r w b .so (F .control)))) (user-means {s = t} (X .standard) (is-user (x .words) (t .count) v (X .post .notB .below) (X .post .notB .from)))
-        (names-halves σ T (x .words) (X .standard) a (r .n) (users-tell T (x .words) a (2 * r .n) (F .address .long) .is (users-stay s (x .words) (t .count) (r .asserted) (r .checked) (user-grows (X .extends)) a ua))) in
+        (names-halves σ T (x .words) (X .standard) a (r .sizes .n) (users-tell T (x .words) a (2 * r .sizes .n) (F .address .long) .is (users-stay s (x .words) (t .count) (r .asserted) (r .checked) (user-grows (X .extends)) a ua))) in
         clear-extends _ _ _ _ (extends-trans (X .extends) (Y .extends)) (Y .standard)

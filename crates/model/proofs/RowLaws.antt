@@ -11,11 +11,11 @@ use Rattle.conditions.specs.declared.Store.{Store}
 use Rattle.conditions.specs.Value.{value}
 use Rattle.conditions.specs.Assignment.{bitAt}
 use Rattle.conditions.proofs.Promises.{stands-turns}
-use Rattle.model.specs.Pairs.{Pair, legal, legals, known, unique, at}
+use Rattle.semantics.specs.Pairs.{Pair, legal, legals, known, unique, at}
 use Rattle.model.specs.Record.{Record, hAt, lAt}
 use Rattle.model.specs.Claims.{pairAt, pairsFrom, pairs}
 use Rattle.model.specs.Table.{Names, AllName, NoneNeither, NoneUnknown}
-use Rattle.model.proofs.PairLaws.{and-both as T-both}
+use Rattle.semantics.proofs.PairLaws.{and-both as T-both}
 use Rattle.model.proofs.MeansLaws.{Means, means-as}
 use Rattle.model.proofs.HalfLaws.{halfOf}
 use Rattle.model.proofs.AccessLaws.{Halves}
@@ -65,7 +65,7 @@ module _ (a : ℕ) (small : a < 2 ^ 64) (r : Record) (w ws : List ℕ) where
 
   -- row 7 leaves addresses with no X where b holds
   module _ (b : ℕ) (N : NoneUnknown r w b ws) where
-    known-at : (i : ℕ) → i < r .n → T (not (value w (bitAt a) b) || known (pairAt (bitAt a) w ws i))
+    known-at : (i : ℕ) → i < r .sizes .n → T (not (value w (bitAt a) b) || known (pairAt (bitAt a) w ws i))
     known-at i l =
         go (value w (bitAt a) b) refl (value w (bitAt a) (hAt ws i)) refl (value w (bitAt a) (lAt ws i)) refl
       where
@@ -75,7 +75,7 @@ module _ (a : ℕ) (small : a < 2 ^ 64) (r : Record) (w ws : List ℕ) where
         go true ez true ex false ey = tt
         go true ez true ex true ey = absurd (N i l a small ez ex ey)
 
-    unique-from : (m i : ℕ) → i + m ≤ r .n → T (not (value w (bitAt a) b) || unique (pairsFrom (bitAt a) w ws i m))
+    unique-from : (m i : ℕ) → i + m ≤ r .sizes .n → T (not (value w (bitAt a) b) || unique (pairsFrom (bitAt a) w ws i m))
     unique-from zero i l = last (value w (bitAt a) b)
       where
         last : (z : Bool) → T (not z || true)
@@ -87,5 +87,5 @@ module _ (a : ℕ) (small : a < 2 ^ 64) (r : Record) (w ws : List ℕ) where
         both true x y s t = T-both x y s t
         both false x y s t = tt
 
-    pub pairs-unique : T (not (value w (bitAt a) b) || unique (pairs (bitAt a) w ws (r .n)))
-    pairs-unique = unique-from (r .n) 0 (omega arith)
+    pub pairs-unique : T (not (value w (bitAt a) b) || unique (pairs (bitAt a) w ws (r .sizes .n)))
+    pairs-unique = unique-from (r .sizes .n) 0 (omega arith)

@@ -1,7 +1,7 @@
 -- R1 to R11 hold: the test of the whole table, computed, and what it says of each line.
 use mathlib.Core.Path.{_≡_, refl, ap}
 use mathlib.Core.Bool.{true, not, false≢true}
-use mathlib.Core.List.{List, [], _∷_, List·Memᴰ, List·Memᴰ·head, List·Memᴰ·tail, List·Memᴰ·not-nil}
+use mathlib.Core.List.{List, [], _∷_}
 use Prim.Native.Nat.{ℕ}
 use lib.Dec.{eqb}
 use borrow.Author.Tests.{eqb-true}
@@ -11,14 +11,7 @@ use Rattle.model.specs.Record.{listCapacity, appended, replaced}
 use Rattle.model.specs.Access.{uniqueBit, Unique, Certain, Write, narrowBit, Narrow, halfStep, EachHalf, mergeHalf, entryStep, settleHalf, Look, holdHalf, Read, insideHalf, Inside, Check}
 use Rattle.model.specs.Rows.{row1, row3, portsRow}
 use Rattle.model.specs.Step.{State, Call, Given, place, idle, filled, entered, kept, accepted, valued, node, triples, Answer, refused, done, isRefused, closed, unlessFull, finishWrite, finishAccess, step, run, fresh}
-use Rattle.model.specs.Rulings.{Expected, reading, leaving, idling, Ruling, rulings, start, result, Taken, Gives, Says, taken, sameWords, fits, answers, ruled, allRuled}
-
-pub rulings-hold : allRuled rulings ≡ true
-unfolding
-    computing
-    listCapacity appended replaced uniqueBit Unique Certain Write narrowBit Narrow halfStep EachHalf mergeHalf entryStep settleHalf Look holdHalf Read insideHalf Inside Check
-    row1 row3 portsRow closed unlessFull finishWrite finishAccess step run fresh rulings start result taken ruled allRuled
-rulings-hold = refl
+use Rattle.model.specs.Rulings.{R1, R2, R3, R4, R5, R6, R7, R8, R9-idle, R9, R10, R10-held, R11, R11-not, Rulings, Expected, reading, leaving, idling, Ruling, start, result, Taken, Gives, Says, taken, sameWords, fits, answers, ruled}
 
 -- from a test that passes to what it says
 words-same : (xs ys : List ℕ) → sameWords xs ys ≡ true → xs ≡ ys
@@ -63,12 +56,25 @@ ruled-says r e =
     let q = and-both (taken (r .before) (start (r .w))) (answers (r .expected) (result r .answer) (result r .after .rec .checked)) e in
     (taken-is (r .before) (start (r .w)) (q .0), answers-is (r .expected) (result r .answer) (result r .after .rec .checked) (q .1))
 
-each-says : (rs : List Ruling) → allRuled rs ≡ true → (r : Ruling) → List·Memᴰ r rs → Says r
-unfolding allRuled
-each-says [] e r m = absurd (List·Memᴰ·not-nil m)
-each-says (x ∷ xs) e r (List·Memᴰ·head p) = ruled-says r (rw p (and-both (ruled x) (allRuled xs) e .0))
-each-says (x ∷ xs) e r (List·Memᴰ·tail m) = each-says xs (and-both (ruled x) (allRuled xs) e .1) r m
-
 -- every line of the table says what is so
-pub rulings-say : (r : Ruling) → List·Memᴰ r rulings → Says r
-rulings-say = each-says rulings rulings-hold
+pub rulings-say : Rulings
+unfolding
+    computing
+    listCapacity appended replaced uniqueBit Unique Certain Write narrowBit Narrow halfStep EachHalf mergeHalf entryStep settleHalf Look holdHalf Read insideHalf Inside Check
+    row1 row3 portsRow closed unlessFull finishWrite finishAccess step run fresh start result taken ruled
+rulings-say = record {
+  r1 = ruled-says R1 refl;
+  r2 = ruled-says R2 refl;
+  r3 = ruled-says R3 refl;
+  r4 = ruled-says R4 refl;
+  r5 = ruled-says R5 refl;
+  r6 = ruled-says R6 refl;
+  r7 = ruled-says R7 refl;
+  r8 = ruled-says R8 refl;
+  r9-idle = ruled-says R9-idle refl;
+  r9 = ruled-says R9 refl;
+  r10 = ruled-says R10 refl;
+  r10-held = ruled-says R10-held refl;
+  r11 = ruled-says R11 refl;
+  r11-not = ruled-says R11-not refl;
+}

@@ -6,8 +6,8 @@ use native.Mathlib.Omega.{arith}
 use lib.Dec.{eqb}
 use borrow.Author.Tests.{eq-eqb}
 use Rattle.nodes.proofs.BoolLaws.{split}
-use Rattle.model.specs.Step.{State, write, read, assert, check, evaluate, variable, ite, conditions, Call, access, nodeCall, refused, isRefused, refusal, Finish, full, short, gives, closed, finishAccess, finishNode, finish, turnedDownBy, step}
-use Rattle.model.specs.Frames.{isAssert, isCheck, lateRow, RefusedByRow, RowRefuses, ConditionsStay}
+use Rattle.model.specs.Step.{State, write, read, assert, check, evaluate, variable, ite, conditions, Call, access, nodeCall, upkeep, refused, isRefused, refusal, Finish, full, short, gives, closed, finishAccess, finishNode, finish, turnedDownBy, step, isKind}
+use Rattle.model.specs.Frames.{lateRow, RefusedByRow, RowRefuses, ConditionsStay}
 use Rattle.model.proofs.FinishLaws.{of-program, of-write, of-assert}
 
 -- what is closed is refused by its late row, and else not
@@ -32,8 +32,8 @@ nine-full s (gives g t) e = absurd (true≢false (sym (ap isRefused e)))
 
 -- a state with the conditions of s, but for those that c changes
 record Stays (c : Call) (s t : State) : Type 0 where
-  asserted : isAssert c ≡ false → t .rec .asserted ≡ s .rec .asserted
-  checked : isCheck c ≡ false → t .rec .checked ≡ s .rec .checked
+  asserted : isKind 3 c ≡ false → t .rec .asserted ≡ s .rec .asserted
+  checked : isKind 4 c ≡ false → t .rec .checked ≡ s .rec .checked
 
 -- what a call comes to stays so
 abbrev FinishStays : Call → State → Finish → Type 0
@@ -54,6 +54,7 @@ finish-stays (nodeCall (evaluate f a)) s = record { asserted = λ e. refl; check
 finish-stays (nodeCall (variable v)) s = of-program (FinishStays (nodeCall (variable v)) s) _ _ (λ f. tt) (λ f. record { asserted = λ e. refl; checked = λ e. refl })
 finish-stays (nodeCall (ite f g h)) s = of-program (FinishStays (nodeCall (ite f g h)) s) _ _ (λ f. tt) (λ f. record { asserted = λ e. refl; checked = λ e. refl })
 finish-stays (nodeCall (conditions t)) s = of-program (FinishStays (nodeCall (conditions t)) s) _ _ (λ f. tt) (λ f. record { asserted = λ e. refl; checked = λ e. refl })
+finish-stays (upkeep c) s = absurd c
 
 closed-stays : (c : Call) (s : State) (x : Finish) → FinishStays c s x → Stays c s (closed s x .after)
 unfolding closed
@@ -63,9 +64,9 @@ closed-stays c s (gives g t) h = h
 
 pub conditions-stay : ConditionsStay
 unfolding ConditionsStay step
-conditions-stay c s = go (refusal c s)
+conditions-stay c s u = go (refusal c s)
   where
-    go : (k : ℕ) → (isAssert c ≡ false → turnedDownBy k s (closed s (finish c s)) .after .rec .asserted ≡ s .rec .asserted) × (isCheck c ≡ false → turnedDownBy k s (closed s (finish c s)) .after .rec .checked ≡ s .rec .checked)
+    go : (k : ℕ) → (isKind 3 c ≡ false → turnedDownBy k s (closed s (finish c s)) .after .rec .asserted ≡ s .rec .asserted) × (isKind 4 c ≡ false → turnedDownBy k s (closed s (finish c s)) .after .rec .checked ≡ s .rec .checked)
     go zero = let S = closed-stays c s (finish c s) (finish-stays c s) in (S .asserted, S .checked)
     go (suc k) = (λ e. refl, λ e. refl)
 

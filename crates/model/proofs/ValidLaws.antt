@@ -69,19 +69,17 @@ module _ (s : State) (w : List ℕ) (c v u : ℕ) where
 
   module _ (E : Extends (s .words) (s .rec .count) w c) where
     pub conditions-extended : Extended s (withConditions s w c v u)
-    conditions-extended = record { n = refl; w = refl; nodes = E; more = omega arith; len = refl; old = λ k h. refl; past = λ k h. refl }
+    conditions-extended = record { same = record { sizes = refl; len = refl }; nodes = E; more = omega arith; old = λ k h. refl; past = λ k h. refl }
 
     -- and one entry more
-    pub entry-extended : (m : Marks) (a d : List ℕ) → length a ≡ 2 * s .rec .n → length d ≡ 2 * s .rec .w → s .rec .entries < listCapacity (s .rec) (s .list) → Extended s (withEntry (withConditions s w c v u) m a d)
+    pub entry-extended : (m : Marks) (a d : List ℕ) → length a ≡ 2 * s .rec .sizes .n → length d ≡ 2 * s .rec .sizes .w → s .rec .entries < listCapacity (s .rec) (s .list) → Extended s (withEntry (withConditions s w c v u) m a d)
     unfolding listCapacity
     entry-extended m a d na wd room =
         let r = withConditions s w c v u .rec in
         record {
-          n = refl;
-          w = refl;
+          same = record { sizes = refl; len = appended-length r (s .list) (m .hard) (m .soft) a d na wd room };
           nodes = E;
           more = omega arith;
-          len = appended-length r (s .list) (m .hard) (m .soft) a d na wd room;
           old = appended-old r (s .list) (m .hard) (m .soft) a d na wd room;
           past = appended-past r (s .list) (m .hard) (m .soft) a d na wd room;
         }
@@ -93,7 +91,7 @@ no-entries r w l z a c =
     row3-tells r w l .so (record { within = omega (arith, none); most = omega (arith, z); words = λ k h. absurd (omega (arith, none)); asserted = names r w _ .is a; checked = names r w _ .is c })
 
 -- an entry of nodes that 5 accepts
-module _ (s : State) (m : Marks) (a d : List ℕ) (na : length a ≡ 2 * s .rec .n) (wd : length d ≡ 2 * s .rec .w) (room : s .rec .entries < listCapacity (s .rec) (s .list))
+module _ (s : State) (m : Marks) (a d : List ℕ) (na : length a ≡ 2 * s .rec .sizes .n) (wd : length d ≡ 2 * s .rec .sizes .w) (room : s .rec .entries < listCapacity (s .rec) (s .list))
     (hard : User s (m .hard)) (soft : User s (m .soft)) (address : users (s .rec) (s .words) a ≡ true) (word : users (s .rec) (s .words) d ≡ true) where
   abbrev l : List ℕ
   l = appended (s .rec) (s .list) (m .hard) (m .soft) a d
@@ -135,30 +133,30 @@ module _ (s : State) (m : Marks) (a d : List ℕ) (na : length a ≡ 2 * s .rec 
 
 -- the ports as facts: each word that a port holds names a node which 5 accepts
 abbrev pub PortUsers : State → Type 0
-PortUsers s = (p : ℕ) → p < 4 → (i : ℕ) → i < 2 * s .rec .w → User s (getD (s .ports) (p * 32 + i) 0)
+PortUsers s = (p : ℕ) → p < 4 → (i : ℕ) → i < 2 * s .rec .sizes .w → User s (getD (s .ports) (p * 32 + i) 0)
 
 pub ports-users : (s : State) → PortsValid s → PortUsers s
 unfolding portsRow
 ports-users s H p l i m =
-    every-is (λ i. isUser (s .words) (s .rec .count) (getD (s .ports) (portAt p + i) 0)) (2 * s .rec .w) 0
-    (every-is (λ p. every (λ i. isUser (s .words) (s .rec .count) (getD (s .ports) (portAt p + i) 0)) 0 (2 * s .rec .w)) 4 0 (H .three) p (omega arith) (omega arith)) i (omega arith) (omega arith)
+    every-is (λ i. isUser (s .words) (s .rec .count) (getD (s .ports) (portAt p + i) 0)) (2 * s .rec .sizes .w) 0
+    (every-is (λ p. every (λ i. isUser (s .words) (s .rec .count) (getD (s .ports) (portAt p + i) 0)) 0 (2 * s .rec .sizes .w)) 4 0 (H .three) p (omega arith) (omega arith)) i (omega arith) (omega arith)
 
 pub users-ports : (s : State) → length (s .ports) ≡ 128 → PortUsers s → PortsValid s
 unfolding portsRow
 users-ports s long U =
     record {
-      three = is-every (λ p. every (λ i. isUser (s .words) (s .rec .count) (getD (s .ports) (portAt p + i) 0)) 0 (2 * s .rec .w)) 4 0
-          (λ p a b. is-every (λ i. isUser (s .words) (s .rec .count) (getD (s .ports) (portAt p + i) 0)) (2 * s .rec .w) 0 (λ i c d. U p (omega arith) i (omega arith)));
+      three = is-every (λ p. every (λ i. isUser (s .words) (s .rec .count) (getD (s .ports) (portAt p + i) 0)) 0 (2 * s .rec .sizes .w)) 4 0
+          (λ p a b. is-every (λ i. isUser (s .words) (s .rec .count) (getD (s .ports) (portAt p + i) 0)) (2 * s .rec .sizes .w) 0 (λ i c d. U p (omega arith) i (omega arith)));
       long = long;
     }
 
 -- a word of such nodes latched in port p
-pub latched-valid : (s : State) (p : ℕ) (word : List ℕ) → s .rec .w ≤ 16 → p ≤ 3 → length word ≡ 2 * s .rec .w → ((i : ℕ) → i < 2 * s .rec .w → User s (getD word i 0)) → PortsValid s → PortsValid (withHeld s p word)
+pub latched-valid : (s : State) (p : ℕ) (word : List ℕ) → s .rec .sizes .w ≤ 16 → p ≤ 3 → length word ≡ 2 * s .rec .sizes .w → ((i : ℕ) → i < 2 * s .rec .sizes .w → User s (getD word i 0)) → PortsValid s → PortsValid (withHeld s p word)
 latched-valid s p word wide port size U H = users-ports (withHeld s p word) (replaced-length (s .ports) p word fits ∙ H .long) (λ q l i m. go q l i m (ℕ-discrete q p))
   where
     fits : p * 32 + length word ≤ length (s .ports)
     fits = omega (arith, H .long, size)
 
-    go : (q : ℕ) → q < 4 → (i : ℕ) → i < 2 * s .rec .w → Dec (q ≡ p) → User s (getD (replaced (s .ports) p word) (q * 32 + i) 0)
+    go : (q : ℕ) → q < 4 → (i : ℕ) → i < 2 * s .rec .sizes .w → Dec (q ≡ p) → User s (getD (replaced (s .ports) p word) (q * 32 + i) 0)
     go q l i m (yes e) = rw (e, replaced-in (s .ports) p word fits i (omega (arith, size))) (U i m)
     go q l i m (no ne) = rw (replaced-other (s .ports) p word fits (omega (arith, size)) q i ne (omega arith)) (ports-users s H q l i m)

@@ -71,7 +71,7 @@ mergeHalf hm sm e r = do
 -- "For each entry, oldest first: m = in, narrowed likewise by its address; hm = And(m,h); sm = And(m,s)"
 unfoldable pub entryStep : Record → ℕ → List ℕ → List ℕ → Build (List ℕ)
 entryStep r inside entry word = do
-  m ← Narrow (r .n) (addressOf r entry) inside
+  m ← Narrow (r .sizes .n) (addressOf r entry) inside
   hm ← And m (getD entry 0 0)
   sm ← And m (getD entry 1 0)
   EachHalf (λ k. mergeHalf hm sm (getD (dataOf r entry) k 0)) (cellWords r) word
@@ -85,7 +85,7 @@ settleHalf inside r = do
 -- "Look(a): in = 1, then for each bit .. The word r starts all (1,1)."
 unfoldable pub Look : Record → List ℕ → List ℕ → Build (List ℕ)
 Look r l a = do
-  inside ← Narrow (r .n) a 1
+  inside ← Narrow (r .sizes .n) a 1
   word ← forEach (λ j. entryStep r inside (entryAt r l j)) 0 (r .entries) (replicate (cellWords r) 1)
   EachHalf (λ k. settleHalf inside) (cellWords r) word
 

@@ -6,8 +6,10 @@ use Prim.Native.Nat.{ℕ, zero, suc, _^_, _<_}
 use Rattle.conditions.specs.Assignment.{bitAt}
 use Rattle.model.specs.Record.{Record}
 use Rattle.model.specs.Step.{State, Access, NodeCall, Call, access, nodeCall, accepted, Answer, refused, done, Result, step, Fresh, fresh}
-use Rattle.model.specs.Array.{Event}
-use Rattle.model.specs.Claims.{event, Fed, under, BitMay, ExactlyAsRuns}
+use Rattle.semantics.specs.declared.Sizes.{Sizes}
+use Rattle.semantics.specs.Array.{Event}
+use Rattle.semantics.specs.Claims.{ExactlyAsRuns}
+use Rattle.model.specs.Claims.{event, Fed, under, BitMay, told}
 
 -- a call takes a state to the next, with this answer
 abbrev pub Answered : Call → State → State → Answer → Type 0
@@ -59,10 +61,10 @@ MayBe φ (k ∷ ks) (suc j) i b = MayBe φ ks j i b
 
 -- the claim of one chain, under one assignment
 abbrev pub ExactlyRuns : State → List Link → (ℕ → Bool) → Type 0
-ExactlyRuns s ks φ = ExactlyAsRuns φ (s .rec .w) (eventsOf φ s ks) (MayBe φ ks) (lastState s ks)
+ExactlyRuns s ks φ = ExactlyAsRuns (s .rec .sizes) (eventsOf φ s ks) (told φ (MayBe φ ks) (lastState s ks))
 
 -- "The first gets the record and node words that an accepted Fresh left, and a list of any words, for any n, w and sizes", and the ports that it left
 unfoldable pub ChainExactly : Type 0
 ChainExactly =
-    (given : Record) (n w : ℕ) (ws ps : List ℕ) (s : State) → freshed (fresh given n w ws ps) ≡ (done accepted, s .rec, s .words, s .ports)
+    (given : Record) (z : Sizes) (ws ps : List ℕ) (s : State) → freshed (fresh given z ws ps) ≡ (done accepted, s .rec, s .words, s .ports)
     → (ks : List Link) → Chained s ks → (a : ℕ) → a < 2 ^ 64 → ExactlyRuns s ks (bitAt a)

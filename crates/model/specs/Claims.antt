@@ -8,10 +8,13 @@ use lib.Dec.{T}
 use Rattle.conditions.specs.Stores.{Standard}
 use Rattle.conditions.specs.Value.{value}
 use Rattle.conditions.specs.Assignment.{bitAt}
-use Rattle.model.specs.Pairs.{Pair, admit, bit}
+use Rattle.semantics.specs.declared.Sizes.{Sizes}
+use Rattle.semantics.specs.Sizes.{cellBits, dataBits}
+use Rattle.semantics.specs.Pairs.{Pair, admit}
 use Rattle.model.specs.Record.{Record, hAt, lAt, heldWord, freshPorts}
-use Rattle.model.specs.Step.{State, Access, write, read, assert, check, Call, access, nodeCall, Answer, refused, done, Filling, fills, fillsNone, filling, Result, step, run, fresh}
-use Rattle.model.specs.Array.{Event, writes, reads, asserts, checks, nothing, Run, observed, lastMemory, Returns, Allowed}
+use Rattle.model.specs.Step.{State, Access, write, read, assert, check, Call, access, nodeCall, upkeep, Answer, refused, done, Filling, fills, fillsNone, filling, Result, step, run, fresh}
+use Rattle.semantics.specs.Array.{Event, writes, reads, asserts, checks, nothing}
+use Rattle.semantics.specs.Claims.{Told, ExactlyAsRuns}
 
 -- "A node in an accepted call's arguments stands for its value under the assignment, in the node words lent to that call."
 abbrev pub pairAt : (ℕ → Bool) → List ℕ → List ℕ → ℕ → Pair
@@ -27,16 +30,17 @@ pairs φ w ws k = pairsFrom φ w ws 0 k
 
 -- an accepted access as the array is fed it
 abbrev pub argument : (ℕ → Bool) → State → Access → Event
-argument φ s (write c a d) = writes (pairAt φ (s .words) c 0) (pairs φ (s .words) a (s .rec .n)) (pairs φ (s .words) d (s .rec .w))
-argument φ s (read p e a out) = reads p (pairAt φ (s .words) e 0) (pairs φ (s .words) a (s .rec .n))
-argument φ s (assert b a d) = asserts (value (s .words) φ b) (pairs φ (s .words) a (s .rec .n)) (pairs φ (s .words) d (s .rec .w))
-argument φ s (check b a d) = checks (value (s .words) φ b) (pairs φ (s .words) a (s .rec .n)) (pairs φ (s .words) d (s .rec .w))
+argument φ s (write c a d) = writes (pairAt φ (s .words) c 0) (pairs φ (s .words) a (s .rec .sizes .n)) (pairs φ (s .words) d (dataBits (s .rec .sizes)))
+argument φ s (read p e a out) = reads p (pairAt φ (s .words) e 0) (pairs φ (s .words) a (s .rec .sizes .n))
+argument φ s (assert b a d) = asserts (value (s .words) φ b) (pairs φ (s .words) a (s .rec .sizes .n)) (pairs φ (s .words) d (cellBits (s .rec .sizes)))
+argument φ s (check b a d) = checks (value (s .words) φ b) (pairs φ (s .words) a (s .rec .sizes .n)) (pairs φ (s .words) d (cellBits (s .rec .sizes)))
 
 -- "A refused call and a node call store, return and find nothing, and a refused check is not in force."
 abbrev pub event : (ℕ → Bool) → State → Call → Answer → Event
 event φ s c (refused k) = nothing
 event φ s (access c) (done g) = argument φ s c
 event φ s (nodeCall c) (done g) = nothing
+event φ s (upkeep c) (done g) = nothing
 
 -- a call as the array is fed it, under each assignment, and the calls of a list
 abbrev pub Fed : Type 0
@@ -76,17 +80,12 @@ HeldMay φ t p i b = T (admit (pairAt φ (t .words) (heldWord (t .rec) (t .ports
 abbrev pub CheckHolds : (ℕ → Bool) → State → Type 0
 CheckHolds φ t = T (value (t .words) φ (t .rec .checked))
 
--- Under one assignment, of calls that fed these events to the array of w bits, whose reads' bits may be 0 and 1 as this says, and that left the state t: a read bit may be b exactly
--- when some plain run returns b there; after the list a bit of a port's word may be b exactly when some plain run has b there in that port; and the check condition holds exactly
--- when every plain run finds, at every check in force, a word that the check allows
-pub record ExactlyAsRuns (φ : ℕ → Bool) (w : ℕ) (es : List Event) (may : ℕ → ℕ → Bool → Type 0) (t : State) : Type 0 where
-  pub bits : (j i : ℕ) → i < w → (b : Bool) → may j i b ↔ ((r : Run w es) × Returns (observed w es r j) i b)
-  pub holds : (p i : ℕ) → p < 4 → i < w → (b : Bool) → HeldMay φ t p i b ↔ ((r : Run w es) × (bit (lastMemory w es r .ports p) i ≡ b))
-  pub checking : CheckHolds φ t ↔ ((r : Run w es) (j : ℕ) → Allowed (observed w es r j))
+-- what calls tell whose reads' bits may be 0 and 1 as this says, and that left the state t
+abbrev pub told : (ℕ → Bool) → (ℕ → ℕ → Bool → Type 0) → State → Told
+told φ may t = record { may = may; held = HeldMay φ t; checked = CheckHolds φ t }
 
--- of a list of calls
 abbrev pub Exactly : State → List Call → (ℕ → Bool) → Type 0
-Exactly s cs φ = ExactlyAsRuns φ (s .rec .w) (events φ s cs) (May φ s cs) (run cs s)
+Exactly s cs φ = ExactlyAsRuns (s .rec .sizes) (events φ s cs) (told φ (May φ s cs) (run cs s))
 
 -- a state in which lists of calls may begin: any standard store, no entries, both conditions 1, a list of any words, all ports X, and w that a port has words for
 pub record Begins (s : State) : Type 0 where
@@ -95,7 +94,7 @@ pub record Begins (s : State) : Type 0 where
   pub asserted : s .rec .asserted ≡ 1
   pub checked : s .rec .checked ≡ 1
   pub ports : s .ports ≡ freshPorts
-  pub wide : s .rec .w ≤ 16
+  pub wide : s .rec .sizes .w ≤ 16
 
 -- the whole claim, for any list of calls, refused ones and node calls included, and any 64-bit assignment
 unfoldable pub Demand3 : Type 0
@@ -104,5 +103,5 @@ Demand3 = (s : State) → Begins s → (cs : List Call) (a : ℕ) → a < 2 ^ 64
 -- and so "the first gets the record and node words that an accepted Fresh left, and a list of any words, for any n, w and sizes"
 unfoldable pub FromFresh : Type 0
 FromFresh =
-    (given : Record) (n w : ℕ) (ws ps list : List ℕ) → fresh given n w ws ps .answer ≡ 0
-    → Begins (record { rec = fresh given n w ws ps .rec; words = fresh given n w ws ps .words; list = list; ports = fresh given n w ws ps .ports })
+    (given : Record) (z : Sizes) (ws ps list : List ℕ) → fresh given z ws ps .answer ≡ 0
+    → Begins (record { rec = fresh given z ws ps .rec; words = fresh given z ws ps .words; list = list; ports = fresh given z ws ps .ports })

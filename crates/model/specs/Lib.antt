@@ -1,12 +1,8 @@
-pub mod Pairs
 pub mod Record
 pub mod Access
 pub mod Formula
 pub mod Rows
 pub mod Step
-pub mod Published
-pub mod Array
-pub mod Held
 pub mod Claims
 pub mod Meanings
 pub mod Frames

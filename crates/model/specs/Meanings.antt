@@ -8,10 +8,10 @@ use lib.ListN.{length, getD}
 use Rattle.conditions.specs.Value.{value}
 use Rattle.conditions.specs.Assignment.{bitAt}
 use Rattle.formulas.specs.Language.{Tree, Listed, listed}
-use Rattle.model.specs.Pairs.{Pair}
+use Rattle.semantics.specs.Pairs.{Pair}
 use Rattle.model.specs.Record.{Record, entryAt, addressOf, dataOf, heldWord}
 use Rattle.model.specs.Formula.{Triple}
-use Rattle.model.specs.Published.{Entry, entry, answer, assertHolds, checkHolds, keeps, control}
+use Rattle.semantics.specs.Published.{Entry, entry, answer, assertHolds, checkHolds, keeps, control}
 use Rattle.model.specs.Step.{State, write, read, assert, check, access, evaluate, variable, ite, conditions, nodeCall, place, idle, filled, entered, kept, accepted, valued, node, triples, done, Result, isRefused, step}
 use Rattle.model.specs.Claims.{pairAt, pairs}
 
@@ -22,8 +22,8 @@ entryValue φ s j =
     record {
       hard = value (s .words) φ (getD e 0 0);
       soft = value (s .words) φ (getD e 1 0);
-      address = pairs φ (s .words) (addressOf (s .rec) e) (s .rec .n);
-      word = pairs φ (s .words) (dataOf (s .rec) e) (s .rec .w);
+      address = pairs φ (s .words) (addressOf (s .rec) e) (s .rec .sizes .n);
+      word = pairs φ (s .words) (dataOf (s .rec) e) (s .rec .sizes .w);
     }
 
 -- the k entries from entry j on; all of them, oldest first
@@ -36,10 +36,10 @@ entryValues φ s = entriesFrom φ s 0 (s .rec .entries)
 
 -- an address and a word among a call's arguments
 abbrev pub addressArgument : (ℕ → Bool) → State → List ℕ → List Pair
-addressArgument φ s a = pairs φ (s .words) a (s .rec .n)
+addressArgument φ s a = pairs φ (s .words) a (s .rec .sizes .n)
 
 abbrev pub wordArgument : (ℕ → Bool) → State → List ℕ → List Pair
-wordArgument φ s d = pairs φ (s .words) d (s .rec .w)
+wordArgument φ s d = pairs φ (s .words) d (s .rec .sizes .w)
 
 -- what port p holds, under an assignment
 abbrev pub portValue : (ℕ → Bool) → State → ℕ → ℕ → Pair
@@ -71,21 +71,21 @@ AreListed φ w w′ (t ∷ ts) (l ∷ ls) = IsListed φ w w′ t l × AreListed 
 pub record Meant (φ : ℕ → Bool) (s : State) : Type 0 where
   pub write-enters : (c a d : List ℕ) (k : ℕ) → step (access (write c a d)) s .answer ≡ done (place k) → (k ≡ s .rec .entries) × Enters φ s (step (access (write c a d)) s .after) (pairAt φ (s .words) c 0) a d
   pub write-idles : (c a d : List ℕ) → step (access (write c a d)) s .answer ≡ done idle → (pairAt φ (s .words) c 0 .h ≡ false) × (entryValues φ (step (access (write c a d)) s .after) ≡ entryValues φ s)
-  pub read-fills : (p : ℕ) (e a out r : List ℕ) → step (access (read p e a out)) s .answer ≡ done (filled r) → (i : ℕ) → i < s .rec .w
-      → pairAt φ (step (access (read p e a out)) s .after .words) r i ≡ answer (s .rec .n) (entryValues φ s) (portValue φ s p) (pairAt φ (s .words) e 0) (addressArgument φ s a) i
-  pub read-held : (p : ℕ) (e a out r : List ℕ) → step (access (read p e a out)) s .answer ≡ done (filled r) → length (s .ports) ≡ 128 → (q i : ℕ) → q < 4 → i < s .rec .w
-      → portValue φ (step (access (read p e a out)) s .after) q i ≡ cond (eqb q p) (answer (s .rec .n) (entryValues φ s) (portValue φ s p) (pairAt φ (s .words) e 0) (addressArgument φ s a)) (portValue φ s q) i
+  pub read-fills : (p : ℕ) (e a out r : List ℕ) → step (access (read p e a out)) s .answer ≡ done (filled r) → (i : ℕ) → i < s .rec .sizes .w
+      → pairAt φ (step (access (read p e a out)) s .after .words) r i ≡ answer (s .rec .sizes) (entryValues φ s) (portValue φ s p) (pairAt φ (s .words) e 0) (addressArgument φ s a) i
+  pub read-held : (p : ℕ) (e a out r : List ℕ) → step (access (read p e a out)) s .answer ≡ done (filled r) → length (s .ports) ≡ 128 → (q i : ℕ) → q < 4 → i < s .rec .sizes .w
+      → portValue φ (step (access (read p e a out)) s .after) q i ≡ cond (eqb q p) (answer (s .rec .sizes) (entryValues φ s) (portValue φ s p) (pairAt φ (s .words) e 0) (addressArgument φ s a)) (portValue φ s q) i
   pub assert-condition : (b : ℕ) (a d : List ℕ) → isRefused (step (access (assert b a d)) s .answer) ≡ false
       → value (step (access (assert b a d)) s .after .words) φ (step (access (assert b a d)) s .after .rec .asserted)
-      ≡ (value (s .words) φ (s .rec .asserted) && assertHolds (s .rec .n) (s .rec .w) (entryValues φ s) (value (s .words) φ b) (addressArgument φ s a) (wordArgument φ s d))
-  pub assert-kept : (b : ℕ) (a d : List ℕ) → step (access (assert b a d)) s .answer ≡ done kept → keeps (s .rec .n) (s .rec .w) (entryValues φ s) (value (s .words) φ b) (addressArgument φ s a) (wordArgument φ s d) ≡ true
+      ≡ (value (s .words) φ (s .rec .asserted) && assertHolds (s .rec .sizes) (entryValues φ s) (value (s .words) φ b) (addressArgument φ s a) (wordArgument φ s d))
+  pub assert-kept : (b : ℕ) (a d : List ℕ) → step (access (assert b a d)) s .answer ≡ done kept → keeps (s .rec .sizes) (entryValues φ s) (value (s .words) φ b) (addressArgument φ s a) (wordArgument φ s d) ≡ true
   pub read-stays : (p : ℕ) (e a out r : List ℕ) → step (access (read p e a out)) s .answer ≡ done (filled r) → entryValues φ (step (access (read p e a out)) s .after) ≡ entryValues φ s
   pub kept-stays : (b : ℕ) (a d : List ℕ) → step (access (assert b a d)) s .answer ≡ done kept → entryValues φ (step (access (assert b a d)) s .after) ≡ entryValues φ s
   pub check-stays : (b : ℕ) (a d : List ℕ) → step (access (check b a d)) s .answer ≡ done accepted → entryValues φ (step (access (check b a d)) s .after) ≡ entryValues φ s
   pub assert-enters : (b : ℕ) (a d : List ℕ) → step (access (assert b a d)) s .answer ≡ done entered → Enters φ s (step (access (assert b a d)) s .after) (control (value (s .words) φ b)) a d
   pub check-condition : (b : ℕ) (a d : List ℕ) → step (access (check b a d)) s .answer ≡ done accepted
       → value (step (access (check b a d)) s .after .words) φ (step (access (check b a d)) s .after .rec .checked)
-      ≡ (value (s .words) φ (s .rec .checked) && checkHolds (s .rec .n) (s .rec .w) (entryValues φ s) (value (s .words) φ b) (addressArgument φ s a) (wordArgument φ s d))
+      ≡ (value (s .words) φ (s .rec .checked) && checkHolds (s .rec .sizes) (entryValues φ s) (value (s .words) φ b) (addressArgument φ s a) (wordArgument φ s d))
   pub evaluates : (f a : ℕ) (v : Bool) → step (nodeCall (evaluate f a)) s .answer ≡ done (valued v) → v ≡ value (s .words) (bitAt a) f
   pub variable-node : (v n : ℕ) → step (nodeCall (variable v)) s .answer ≡ done (node n) → value (step (nodeCall (variable v)) s .after .words) φ n ≡ φ v
   pub ite-node : (f g h n : ℕ) → step (nodeCall (ite f g h)) s .answer ≡ done (node n)

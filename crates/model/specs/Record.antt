@@ -3,28 +3,26 @@ use mathlib.Core.Bool.{Bool}
 use mathlib.Core.List.{List, [], _∷_, _++_}
 use Prim.Native.Nat.{ℕ, _+_, _*_, _-_, _/_, min}
 use lib.ListN.{length, getD, take, drop, replicate}
+use Rattle.semantics.specs.declared.Sizes.{Sizes}
+use Rattle.semantics.specs.Sizes.{cellBits, dataBits}
+use Rattle.model.specs.declared.Fields.{Fields}
 
--- "The record has n, w, node count, entry count, assert condition, check condition."
-pub record Record : Type 0 where
-  pub n : ℕ
-  pub w : ℕ
-  pub count : ℕ
-  pub entries : ℕ
-  pub asserted : ℕ
-  pub checked : ℕ
+-- "The record has n, w, node count, entry count, assert condition, check condition.": the fields that the code's struct has
+abbrev pub Record : Type 0
+Record = Fields
 
 -- the record with another node count, entry count, assert condition, check condition; nothing else of it ever changes
 abbrev pub withCount : Record → ℕ → Record
-withCount r c = record { n = r .n; w = r .w; count = c; entries = r .entries; asserted = r .asserted; checked = r .checked }
+withCount r c = record { sizes = r .sizes; count = c; entries = r .entries; asserted = r .asserted; checked = r .checked }
 
 abbrev pub withEntries : Record → ℕ → Record
-withEntries r k = record { n = r .n; w = r .w; count = r .count; entries = k; asserted = r .asserted; checked = r .checked }
+withEntries r k = record { sizes = r .sizes; count = r .count; entries = k; asserted = r .asserted; checked = r .checked }
 
 abbrev pub withAsserted : Record → ℕ → Record
-withAsserted r a = record { n = r .n; w = r .w; count = r .count; entries = r .entries; asserted = a; checked = r .checked }
+withAsserted r a = record { sizes = r .sizes; count = r .count; entries = r .entries; asserted = a; checked = r .checked }
 
 abbrev pub withChecked : Record → ℕ → Record
-withChecked r c = record { n = r .n; w = r .w; count = r .count; entries = r .entries; asserted = r .asserted; checked = c }
+withChecked r c = record { sizes = r .sizes; count = r .count; entries = r .entries; asserted = r .asserted; checked = c }
 
 -- "lowest bit first, h before l, in words and in steps alike": the halves of pair i
 abbrev pub hAt : List ℕ → ℕ → ℕ
@@ -39,13 +37,13 @@ part l a e = take (e - a) (drop a l)
 
 -- the words of an address, of a cell's data in an entry or beside a look, and of the data or answer of a write or a read
 abbrev pub addressWords : Record → ℕ
-addressWords r = 2 * r .n
+addressWords r = 2 * r .sizes .n
 
 abbrev pub cellWords : Record → ℕ
-cellWords r = 2 * r .w
+cellWords r = 2 * cellBits (r .sizes)
 
 abbrev pub dataWords : Record → ℕ
-dataWords r = 2 * r .w
+dataWords r = 2 * dataBits (r .sizes)
 
 -- "An entry is 2+2n+2w words: h, s, address, data."
 abbrev pub size : Record → ℕ

@@ -8,6 +8,7 @@ use Rattle.nodes.specs.Search.{every}
 use Rattle.conditions.specs.Stores.{isStandard}
 use Rattle.conditions.specs.User.{isUser}
 use Rattle.conditions.specs.Meet.{neither, together}
+use Rattle.semantics.specs.Sizes.{cellBits, dataBits}
 use Rattle.formulas.specs.Language.{Tree}
 use Rattle.model.specs.Formula.{everyNode}
 use Rattle.model.specs.Record.{Record, hAt, lAt, addressWords, cellWords, dataWords, size, listCapacity, portAt}
@@ -33,7 +34,7 @@ module _ (r : Record) (w : List ℕ) where
 
   -- "n or w outside its range"
   unfoldable pub row1 : Bool
-  row1 = leb 1 (r .n) && leb (r .n) 8 && leb 1 (r .w) && leb (r .w) 16
+  row1 = leb 1 (r .sizes .n) && leb (r .sizes .n) 8 && leb 1 (r .sizes .w) && leb (r .sizes .w) 16
 
   -- "fewer than 6 words, count under 2 or over capacity, not standard form"
   abbrev pub row2 : Bool
@@ -49,9 +50,12 @@ module _ (r : Record) (w : List ℕ) where
   abbrev pub spaceFor : ℕ → List ℕ → Bool
   spaceFor k l = leb (r .entries + k) (listCapacity r l)
 
-  -- rows 1 to 3 of an access
+  -- rows 1 and 2, which every call meets; and 3 of an access
+  abbrev pub storeRows : List Row → List Row
+  storeRows ts = (1, row1) ∷ (2, row2) ∷ ts
+
   abbrev pub memoryRows : List ℕ → List Row → List Row
-  memoryRows l ts = (1, row1) ∷ (2, row2) ∷ (3, row3 l) ∷ ts
+  memoryRows l ts = storeRows ((3, row3 l) ∷ ts)
 
   -- row 4: "a slice not exactly 2n or 2w words, an enable not 2". Row 5: "an access's .. node not below the count or on an index variable".
   -- Row 6: "some assignment makes a pair neither". Row 7: "some assignment has b and an X address bit"
@@ -60,7 +64,7 @@ module _ (r : Record) (w : List ℕ) where
       memoryRows l
       ((4, eqb (length c) 2 && eqb (length a) (addressWords r) && eqb (length d) (dataWords r))
       ∷ (5, users c && users a && users d)
-      ∷ (6, legalPairs c 1 && legalPairs a (r .n) && legalPairs d (r .w))
+      ∷ (6, legalPairs c 1 && legalPairs a (r .sizes .n) && legalPairs d (dataBits (r .sizes)))
       ∷ [])
 
   -- 02: "A held word that 5 would refuse meets 3": the words that the four ports hold
@@ -70,40 +74,39 @@ module _ (r : Record) (w : List ℕ) where
   -- "14, port above 3, tested after 4"
   abbrev pub readRows : List ℕ → List ℕ → ℕ → List ℕ → List ℕ → List ℕ → List Row
   readRows l ps p e a out =
-      (1, row1) ∷ (2, row2) ∷ (3, row3 l && portsRow ps)
+      storeRows
+      ((3, row3 l && portsRow ps)
       ∷ (4, eqb (length e) 2 && eqb (length a) (addressWords r) && eqb (length out) (dataWords r))
       ∷ (14, leb p 3)
       ∷ (5, users e && users a)
-      ∷ (6, legalPairs e 1 && legalPairs a (r .n))
-      ∷ []
+      ∷ (6, legalPairs e 1 && legalPairs a (r .sizes .n))
+      ∷ [])
+
+  -- a check's, and an assert's before 7
+  abbrev pub comparedRows : List ℕ → ℕ → List ℕ → List ℕ → List Row → List Row
+  comparedRows l b a d ts =
+      memoryRows l
+      ((4, eqb (length a) (addressWords r) && eqb (length d) (cellWords r))
+      ∷ (5, isUser w (r .count) b && users a && users d)
+      ∷ (6, legalPairs a (r .sizes .n) && legalPairs d (cellBits (r .sizes)))
+      ∷ ts)
 
   abbrev pub checkRows : List ℕ → ℕ → List ℕ → List ℕ → List Row
-  checkRows l b a d =
-      memoryRows l
-      ((4, eqb (length a) (addressWords r) && eqb (length d) (cellWords r))
-      ∷ (5, isUser w (r .count) b && users a && users d)
-      ∷ (6, legalPairs a (r .n) && legalPairs d (r .w))
-      ∷ [])
+  checkRows l b a d = comparedRows l b a d []
 
   abbrev pub assertRows : List ℕ → ℕ → List ℕ → List ℕ → List Row
-  assertRows l b a d =
-      memoryRows l
-      ((4, eqb (length a) (addressWords r) && eqb (length d) (cellWords r))
-      ∷ (5, isUser w (r .count) b && users a && users d)
-      ∷ (6, legalPairs a (r .n) && legalPairs d (r .w))
-      ∷ (7, every (λ i. not (together w b (hAt a i) (lAt a i))) 0 (r .n))
-      ∷ [])
+  assertRows l b a d = comparedRows l b a d ((7, every (λ i. not (together w b (hAt a i) (lAt a i))) 0 (r .sizes .n)) ∷ [])
 
   -- "Ite, evaluate and variable calls lend no list and skip 3." Row 5: "evaluate: not below the count; variable not 8 to 63"
   abbrev pub evaluateRows : ℕ → List Row
-  evaluateRows f = (1, row1) ∷ (2, row2) ∷ (5, ltb f (r .count)) ∷ []
+  evaluateRows f = storeRows ((5, ltb f (r .count)) ∷ [])
 
   abbrev pub variableRows : ℕ → List Row
-  variableRows v = (1, row1) ∷ (2, row2) ∷ (5, leb 8 v && leb v 63) ∷ []
+  variableRows v = storeRows ((5, leb 8 v && leb v 63) ∷ [])
 
   abbrev pub iteRows : ℕ → ℕ → ℕ → List Row
-  iteRows f g h = (1, row1) ∷ (2, row2) ∷ (5, isUser w (r .count) f && isUser w (r .count) g && isUser w (r .count) h) ∷ []
+  iteRows f g h = storeRows ((5, isUser w (r .count) f && isUser w (r .count) g && isUser w (r .count) h) ∷ [])
 
   -- a formula's conditions are built of nodes that 5 accepts
   abbrev pub formulaRows : Tree → List Row
-  formulaRows t = (1, row1) ∷ (2, row2) ∷ (5, everyNode (isUser w (r .count)) t) ∷ []
+  formulaRows t = storeRows ((5, everyNode (isUser w (r .count)) t) ∷ [])

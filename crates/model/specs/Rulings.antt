@@ -1,4 +1,4 @@
--- 01, 'Panel's rulings': R1 to R11 as one table of calls and what they are to give, and the test of a line by `step`.
+-- 01, 'Panel's rulings': R1 to R11 as one table, each by its number: calls, and what the last of them is to give.
 use mathlib.Core.Path.{_≡_}
 use mathlib.Core.Bool.{Bool, true, false, not, _&&_}
 use mathlib.Core.List.{List, [], _∷_, _++_}
@@ -46,41 +46,66 @@ abbrev pub ruling : ℕ → List Call → Call → Expected → Ruling
 ruling w cs c e = record { w = w; before = cs; last = c; expected = e }
 
 -- "n=1, w=1, enables 1 unless named"; reads at port 0
-unfoldable pub rulings : List Ruling
-rulings =
-    -- "R1 nothing, read 0: X."
-    ruling 1 [] (access (read 0 one nought lent)) (reading unknown)
-    -- "R2 1@0, read 0: 1."
-    ∷ ruling 1 (one at nought ∷ []) (access (read 0 one nought lent)) (reading one)
-    -- "R3 1@0, read 1: X."
-    ∷ ruling 1 (one at nought ∷ []) (access (read 0 one one lent)) (reading unknown)
-    -- "R4 1@0 with enable X, read 0: X."
-    ∷ ruling 1 (access (write unknown nought one) ∷ []) (access (read 0 one nought lent)) (reading unknown)
-    -- "R5 1@0, again with enable X: 1."
-    ∷ ruling 1 (one at nought ∷ access (write unknown nought one) ∷ []) (access (read 0 one nought lent)) (reading one)
-    -- "R6 1@0, 1@1, read X: 1."
-    ∷ ruling 1 (one at nought ∷ one at one ∷ []) (access (read 0 one unknown lent)) (reading one)
-    -- "R7 1@0, 0@1, read X: X."
-    ∷ ruling 1 (one at nought ∷ nought at one ∷ []) (access (read 0 one unknown lent)) (reading unknown)
-    -- "R8 1@0, 1@1, 0@X, read 0: X."
-    ∷ ruling 1 (one at nought ∷ one at one ∷ nought at unknown ∷ []) (access (read 0 one nought lent)) (reading unknown)
-    -- "R9 1@0 with enable 0, read 0: X.": its write is idle, and it "keeps its answer"
-    ∷ ruling 1 [] (access (write nought nought one)) idling
-    ∷ ruling 1 (access (write nought nought one) ∷ []) (access (read 0 one nought lent)) (reading unknown)
-    -- "R10 1@0, read 0 with enable X: X.", on a fresh port
-    ∷ ruling 1 (one at nought ∷ []) (access (read 0 unknown nought lent)) (reading unknown)
-    -- "R10 becomes 1 if the same port's last word was 1"
-    ∷ ruling 1 (one at nought ∷ access (read 0 one nought lent) ∷ []) (access (read 0 unknown nought lent)) (reading one)
-    -- "R11 w=2, 01@0, 10@1: check X against XX holds,"
-    ∷ ruling 2 (bits nought one at nought ∷ bits one nought at one ∷ []) (access (check 1 unknown (bits unknown unknown))) (leaving 1)
-    -- "against 01 not."
-    ∷ ruling 2 (bits nought one at nought ∷ bits one nought at one ∷ []) (access (check 1 unknown (bits nought one))) (leaving 0)
-    ∷ []
+
+-- "R1 nothing, read 0: X."
+abbrev pub R1 : Ruling
+R1 = ruling 1 [] (access (read 0 one nought lent)) (reading unknown)
+
+-- "R2 1@0, read 0: 1."
+abbrev pub R2 : Ruling
+R2 = ruling 1 (one at nought ∷ []) (access (read 0 one nought lent)) (reading one)
+
+-- "R3 1@0, read 1: X."
+abbrev pub R3 : Ruling
+R3 = ruling 1 (one at nought ∷ []) (access (read 0 one one lent)) (reading unknown)
+
+-- "R4 1@0 with enable X, read 0: X."
+abbrev pub R4 : Ruling
+R4 = ruling 1 (access (write unknown nought one) ∷ []) (access (read 0 one nought lent)) (reading unknown)
+
+-- "R5 1@0, again with enable X: 1."
+abbrev pub R5 : Ruling
+R5 = ruling 1 (one at nought ∷ access (write unknown nought one) ∷ []) (access (read 0 one nought lent)) (reading one)
+
+-- "R6 1@0, 1@1, read X: 1."
+abbrev pub R6 : Ruling
+R6 = ruling 1 (one at nought ∷ one at one ∷ []) (access (read 0 one unknown lent)) (reading one)
+
+-- "R7 1@0, 0@1, read X: X."
+abbrev pub R7 : Ruling
+R7 = ruling 1 (one at nought ∷ nought at one ∷ []) (access (read 0 one unknown lent)) (reading unknown)
+
+-- "R8 1@0, 1@1, 0@X, read 0: X."
+abbrev pub R8 : Ruling
+R8 = ruling 1 (one at nought ∷ one at one ∷ nought at unknown ∷ []) (access (read 0 one nought lent)) (reading unknown)
+
+-- "R9 1@0 with enable 0, read 0: X.": its write is idle, and it "keeps its answer"
+abbrev pub R9-idle : Ruling
+R9-idle = ruling 1 [] (access (write nought nought one)) idling
+
+abbrev pub R9 : Ruling
+R9 = ruling 1 (access (write nought nought one) ∷ []) (access (read 0 one nought lent)) (reading unknown)
+
+-- "R10 1@0, read 0 with enable X: X.", on a fresh port
+abbrev pub R10 : Ruling
+R10 = ruling 1 (one at nought ∷ []) (access (read 0 unknown nought lent)) (reading unknown)
+
+-- "R10 becomes 1 if the same port's last word was 1"
+abbrev pub R10-held : Ruling
+R10-held = ruling 1 (one at nought ∷ access (read 0 one nought lent) ∷ []) (access (read 0 unknown nought lent)) (reading one)
+
+-- "R11 w=2, 01@0, 10@1: check X against XX holds,"
+abbrev pub R11 : Ruling
+R11 = ruling 2 (bits nought one at nought ∷ bits one nought at one ∷ []) (access (check 1 unknown (bits unknown unknown))) (leaving 1)
+
+-- "against 01 not."
+abbrev pub R11-not : Ruling
+R11-not = ruling 2 (bits nought one at nought ∷ bits one nought at one ∷ []) (access (check 1 unknown (bits nought one))) (leaving 0)
 
 -- a memory that Fresh left, with n = 1, room for 64 nodes, and 64 list words
 unfoldable pub start : ℕ → State
 start w =
-    let f = fresh (freshRecord 1 w) 1 w (replicate 192 0) (replicate 128 0) in
+    let f = fresh (freshRecord (record { n = 1; w = w })) (record { n = 1; w = w }) (replicate 192 0) (replicate 128 0) in
     record { rec = f .rec; words = f .words; list = replicate 64 0; ports = f .ports }
 
 -- what the last call of a line gives, after the calls before it
@@ -135,6 +160,19 @@ answers e (done g) c = fits e g c
 unfoldable pub ruled : Ruling → Bool
 ruled r = taken (r .before) (start (r .w)) && answers (r .expected) (result r .answer) (result r .after .rec .checked)
 
-unfoldable pub allRuled : List Ruling → Bool
-allRuled [] = true
-allRuled (r ∷ rs) = ruled r && allRuled rs
+-- each says what is so
+pub record Rulings : Type 0 where
+  pub r1 : Says R1
+  pub r2 : Says R2
+  pub r3 : Says R3
+  pub r4 : Says R4
+  pub r5 : Says R5
+  pub r6 : Says R6
+  pub r7 : Says R7
+  pub r8 : Says R8
+  pub r9-idle : Says R9-idle
+  pub r9 : Says R9
+  pub r10 : Says R10
+  pub r10-held : Says R10-held
+  pub r11 : Says R11
+  pub r11-not : Says R11-not

@@ -12,6 +12,7 @@ use Rattle.conditions.specs.Make.{Variable}
 use Rattle.conditions.specs.Ite.{Ite}
 use Rattle.conditions.specs.Value.{value}
 use Rattle.conditions.specs.Assignment.{bitAt}
+use Rattle.semantics.specs.declared.Sizes.{Sizes}
 use Rattle.model.specs.Record.{Record, withCount, withEntries, withAsserted, withChecked, appended, heldWord, replaced, freshPorts}
 use Rattle.formulas.specs.Language.{Tree}
 use Rattle.model.specs.Formula.{Triple, Triples}
@@ -52,9 +53,32 @@ pub data NodeCall : Type 0 where
   ite : ℕ → ℕ → ℕ → NodeCall
   conditions : Tree → NodeCall
 
+-- a call that keeps record, node words and list in order, at which the plain array does nothing: none yet
+abbrev pub Upkeep : Type 0
+Upkeep = ⊥
+
 pub data Call : Type 0 where
   access : Access → Call
   nodeCall : NodeCall → Call
+  upkeep : Upkeep → Call
+
+-- "Kind 1 is a write, 2 a read, 3 an assert, 4 a check."
+abbrev pub kindOf : Access → ℕ
+kindOf (write c a d) = 1
+kindOf (read p e a out) = 2
+kindOf (assert b a d) = 3
+kindOf (check b a d) = 4
+
+-- a call is an access of this kind; it is upkeep
+abbrev pub isKind : ℕ → Call → Bool
+isKind k (access c) = eqb (kindOf c) k
+isKind k (nodeCall c) = false
+isKind k (upkeep c) = false
+
+abbrev pub isUpkeep : Call → Bool
+isUpkeep (access c) = false
+isUpkeep (nodeCall c) = false
+isUpkeep (upkeep c) = true
 
 -- "A write answers its entry's place, counted from 0", or by 02 idle; "a read fills 2w lent words; an assert answers entered or kept; a check answers accepted."
 -- Evaluate answers a value, variable and Ite a node, the conditions of a formula its triples
@@ -138,6 +162,7 @@ nodeRefusal (conditions t) s = firstRow (formulaRows (s .rec) (s .words) t)
 abbrev pub refusal : Call → State → ℕ
 refusal (access c) s = accessRefusal c s
 refusal (nodeCall c) s = nodeRefusal c s
+refusal (upkeep c) s = absurd c
 
 -- "A refusal .. returns its number; record, nodes below the count, list and answer are untouched."
 abbrev pub turnedDown : ℕ → State → Result
@@ -205,7 +230,7 @@ assertFirst b a d s = Assert (s .rec) (s .list) b a d (s .words) (begin (s .rec)
 
 -- and for its entry: "Write((b, Not b),a,d)"
 abbrev pub entryBuilt : State → ℕ → List ℕ → AssertBuilt → List ℕ → ℕ → Outcome Marks
-entryBuilt s b a q w c = Write (s .rec .n) b (q .notB) a w (record { count = c; full = false })
+entryBuilt s b a q w c = Write (s .rec .sizes .n) b (q .notB) a w (record { count = c; full = false })
 
 -- "if Or(Not b, And(A,C)) is 1 the assert is kept, else entered by Write((b, Not b),a,d)"; "8 is met when the entry is needed, before its Write builds anything"
 unfoldable pub enter : State → ℕ → List ℕ → List ℕ → AssertBuilt → List ℕ → ℕ → Finish
@@ -219,7 +244,7 @@ isIdle c = eqb (getD c 0 0) 0
 
 -- what another write builds
 abbrev pub writeBuilt : List ℕ → List ℕ → State → Outcome Marks
-writeBuilt c a s = Write (s .rec .n) (getD c 0 0) (getD c 1 0) a (s .words) (begin (s .rec))
+writeBuilt c a s = Write (s .rec .sizes .n) (getD c 0 0) (getD c 1 0) a (s .words) (begin (s .rec))
 
 -- "Such a write is no longer entered"; "It builds no condition". "Refusal 8 is met only by a write that would be entered, after its conditions are built"
 unfoldable pub finishWrite : List ℕ → List ℕ → List ℕ → State → Finish
@@ -243,6 +268,7 @@ finishNode (conditions t) s = unlessFull (Triples 0 1 t (s .words) (begin (s .re
 abbrev pub finish : Call → State → Finish
 finish (access c) s = finishAccess c s
 finish (nodeCall c) s = finishNode c s
+finish (upkeep c) s = absurd c
 
 abbrev pub turnedDownBy : ℕ → State → Result → Result
 turnedDownBy zero s x = x
@@ -268,16 +294,16 @@ pub record Fresh : Type 0 where
   pub words : List ℕ
   pub ports : List ℕ
 
-abbrev pub freshRecord : ℕ → ℕ → Record
-freshRecord n w = record { n = n; w = w; count = 2; entries = 0; asserted = 1; checked = 1 }
+abbrev pub freshRecord : Sizes → Record
+freshRecord z = record { sizes = z; count = 2; entries = 0; asserted = 1; checked = 1 }
 
-abbrev pub freshRows : ℕ → ℕ → List ℕ → ℕ
-freshRows n w ws = firstRow ((1, row1 (freshRecord n w) ws) ∷ (2, leb 6 (length ws)) ∷ [])
+abbrev pub freshRows : Sizes → List ℕ → ℕ
+freshRows z ws = firstRow ((1, row1 (freshRecord z) ws) ∷ (2, leb 6 (length ws)) ∷ [])
 
 abbrev pub freshUnless : ℕ → Record → Record → List ℕ → List ℕ → Fresh
 freshUnless zero given r ws ps = record { answer = 0; rec = r; words = withTerminals ws; ports = freshPorts }
 freshUnless (suc k) given r ws ps = record { answer = suc k; rec = given; words = ws; ports = ps }
 
 -- a refused Fresh gives back the record that it was given
-unfoldable pub fresh : Record → ℕ → ℕ → List ℕ → List ℕ → Fresh
-fresh given n w ws ps = freshUnless (freshRows n w ws) given (freshRecord n w) ws ps
+unfoldable pub fresh : Record → Sizes → List ℕ → List ℕ → Fresh
+fresh given z ws ps = freshUnless (freshRows z ws) given (freshRecord z) ws ps

@@ -7,10 +7,12 @@ use native.Mathlib.Omega.{arith}
 use lib.ListN.{length}
 use Rattle.conditions.specs.Stores.{Standard, withTerminals}
 use Rattle.conditions.specs.User.{isUser}
+use Rattle.semantics.specs.declared.Sizes.{Sizes}
 use Rattle.model.specs.Record as model
 use Rattle.model.specs.Rows.{Row, firstRow, row1, row2, variableRows, iteRows, evaluateRows}
 use Rattle.model.specs.Step.{State, accepted, done, freshRecord, freshRows, freshUnless, fresh}
 use Rattle.model.proofs.FactLaws.{names, evaluate-facts, variable-facts, ite-facts, fresh-told}
+use Rattle.rows.specs.Contract.{stateOf}
 use Rattle.rows.proofs.CallLaws.{first-refuses, store-holds}
 use Rattle.node_calls.specs.Contract.{numbered, freshed}
 
@@ -19,23 +21,23 @@ fresh-unless : (k : ℕ) (g r : model.Record) (w ps : List ℕ) → (k ≡ 0 →
 fresh-unless zero g r w ps n = absurd (n refl)
 fresh-unless (suc k) g r w ps n = refl
 
-module _ (g : model.Record) (n w : ℕ) (ws ps : List ℕ) {k : ℕ} (e : k ≡ freshRows n w ws) where
-  pub fresh-turned : (k ≡ 0 → ⊥) → freshed (fresh g n w ws ps) ≡ (numbered k, g, ws, ps)
+module _ (g : model.Record) (z : Sizes) (ws ps : List ℕ) {k : ℕ} (e : k ≡ freshRows z ws) where
+  pub fresh-turned : (k ≡ 0 → ⊥) → freshed (fresh g z ws ps) ≡ (numbered k, g, ws, ps)
   unfolding fresh
-  fresh-turned z = rw (← e) (fresh-unless k g (freshRecord n w) ws ps z)
+  fresh-turned n = rw (← e) (fresh-unless k g (freshRecord z) ws ps n)
 
-  pub fresh-done : k ≡ 0 → freshed (fresh g n w ws ps) ≡ (done accepted, freshRecord n w, withTerminals ws, model.freshPorts)
+  pub fresh-done : k ≡ 0 → freshed (fresh g z ws ps) ≡ (done accepted, freshRecord z, withTerminals ws, model.freshPorts)
   unfolding fresh
-  fresh-done z = rw (← e, z)
+  fresh-done o = rw (← e, o)
 
   pub fresh-room : k ≡ 0 → 6 ≤ length ws
-  fresh-room z = fresh-told n w ws .none (sym e ∙ z) .1 .0
+  fresh-room o = fresh-told z ws .none (sym e ∙ o) .1 .0
 
 -- what the rows of the node calls leave
 module _ (r : model.Record) (w : List ℕ) where
   -- they are lent no list
   abbrev s : State
-  s = record { rec = r; words = w; list = []; ports = [] }
+  s = stateOf r w []
 
   pub variable-holds : (v : ℕ) {k : ℕ} → k ≡ firstRow (variableRows r w v) → k ≡ 0 → Standard w (r .count) × (v < 64)
   variable-holds v e z = let F = variable-facts s v (sym e ∙ z) in (F .standard, omega (arith, F .named .1))

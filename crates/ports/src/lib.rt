@@ -1,6 +1,6 @@
 // The read ports: what they hold, tested, made anew, and replaced.
 ghost use mathlib.Core.Path.{_≡_};
-ghost use Prim.Native.Nat.{ℕ, _+_, _*_, _<_, _≤_};
+ghost use Prim.Native.Nat.{ℕ, _+_, _<_, _≤_};
 ghost use lib.ListN.{length, getD};
 ghost use Rattle.nodes.specs.Search.{every};
 ghost use Rattle.conditions.specs.Stores.{Standard};
@@ -12,12 +12,11 @@ pub struct Ports {
     pub words: [u32; 128],
 }
 
-// Row 3 of the ports: whether row 5 accepts each of the words that the four hold, 2w each.
-pub fn all_name_nodes(words: &[u32], count: u32, ports: &[u32], w: usize) -> bool
-    requires { ⌜ Standard (now words) count × (w ≤ 16) × (length (now ports) ≡ 128) ⌝ }
-    ensures { λ r. ⌜ r ≡ every (λ (p : ℕ). every (λ (i : ℕ). isUser (now (words .entry)) count (getD (now (ports .entry)) (portAt p + i) 0)) 0 (2 * w)) 0 4 ⌝ }
+// Row 3 of the ports: whether row 5 accepts each of the words that the four hold, k each.
+pub fn all_name_nodes(words: &[u32], count: u32, ports: &[u32], k: usize) -> bool
+    requires { ⌜ Standard (now words) count × (k ≤ 32) × (length (now ports) ≡ 128) ⌝ }
+    ensures { λ r. ⌜ r ≡ every (λ (p : ℕ). every (λ (i : ℕ). isUser (now (words .entry)) count (getD (now (ports .entry)) (portAt p + i) 0)) 0 k) 0 4 ⌝ }
 {
-    let k = 2 * w;
     let mut p: usize = 0;
     while p < 4 {
         let at = p * 32;

@@ -18,12 +18,13 @@ use Rattle.conditions.specs.declared.Store.{Store}
 use Rattle.conditions.specs.Build.{Outcome, pure}
 use Rattle.conditions.specs.Contract.{Sound}
 use Rattle.conditions.proofs.Promises.{extends-refl, builds-clear}
+use Rattle.model.specs.Record.{withCount}
 use Rattle.model.specs.Formula.{Triple, Triples}
 use Rattle.model.specs.Step.{conditions, nodeCall, triples, refused, done, Result, begin, step, finishNode, closed}
 use Rattle.model.specs.Frames.{Valid, StaysValid}
 use Rattle.model.specs.Table.{Names, EachArrow}
 use Rattle.model.proofs.FactLaws.{call-told}
-use Rattle.model.proofs.PairLaws.{T→eq}
+use Rattle.semantics.proofs.PairLaws.{T→eq}
 use Rattle.model.proofs.FrameLaws.{stays-valid}
 use Rattle.model.proofs.FormulaLaws.{each-arrow, formula-builds}
 use Rattle.model.proofs.AgainFormulaLaws.{LaterThan, triples-again}
@@ -33,8 +34,8 @@ use Rattle.formula_calls.specs.Claims.{FormulaRows}
 use Rattle.formula_calls.proofs.FoundLaws.{memory-told, named-arrows, conditions-facts}
 use Rattle.formula_calls.proofs.RowLaws.{formula-rows}
 use Rattle.formula_calls.proofs.WordLaws.{words-long}
-use Rattle.rows.specs.declared.Fields.{Fields}
-use Rattle.rows.specs.Contract.{recordOf, stateOf, clearedWhere}
+use Rattle.model.specs.declared.Fields.{Fields}
+use Rattle.rows.specs.Contract.{stateOf, clearedWhere}
 use Rattle.rows.proofs.CallLaws.{node-acted, nine-acts, done-acts, left-by, not-full, valid-rows}
 use Rattle.listing.specs.declared.Pass.the-variants.{Count}
 use Rattle.listing.specs.declared.Plan.{Plan}
@@ -42,13 +43,13 @@ use Rattle.listing.specs.declared.Walk.{Walk}
 use Rattle.listing.specs.Contract.{outOf, putAll, Seen, listedAs, predicatesOf, limits, seenAt, outermost, begun, Came, MayWalk, Walked}
 use Rattle.listing.proofs.WalkLaws.{limits-same}
 use Rattle.making.specs.Contract.{triplesFrom}
-use Rattle.preparing.specs.Contract.{stepOf, Built, MayList, ListedAs, Prepares, comesTo, grown, ListedIn}
+use Rattle.preparing.specs.Contract.{stepOf, Built, MayList, ListedAs, Prepares, comesTo, ListedIn}
 use Rattle.preparing.proofs.PassLaws.{listing}
 use Rattle.preparing.proofs.TripleLaws.{Each, each-in-order, Good, triples-good, good-below, triples-many, listed-many, words-triples, each-at}
 
 -- the predicates of the table
 abbrev pub known : Fields → List ℕ → ℕ
-known r predicates = predicatesIn (recordOf r) predicates
+known r predicates = predicatesIn r predicates
 
 -- the plan of the walk that counts
 abbrev pub counting : ℕ → ℕ → Plan
@@ -119,7 +120,7 @@ module _ (k : Making) (r : Fields) (w l text predicates out : List ℕ) where
 
   -- and else after its conditions
   pub comes-on : (t : Tree) → judgeText (limitsOf (stateOf r w l) predicates) text ≡ fine t [] → predicatesOf t ≤ length out / 3
-      → comesTo k r w l text predicates out ≡ afterBuilding k (recordOf r) predicates out (step (nodeCall (conditions t)) (stateOf r w l) .answer) (step (nodeCall (conditions t)) (stateOf r w l) .after)
+      → comesTo k r w l text predicates out ≡ afterBuilding k r predicates out (step (nodeCall (conditions t)) (stateOf r w l) .answer) (step (nodeCall (conditions t)) (stateOf r w l) .after)
   comes-on t e h =
       let m = listed-many 0 [] t in
       ap (λ (v : Verdict). finishFormula k predicates out (stateOf r w l) (byVerdict text out v)) e
@@ -135,12 +136,12 @@ one-built {text} {w} {predicates} {count} {s} A B =
     ap (λ (x : Outcome (List Triple)). x .answer) (sym (A .again) ∙ ap (λ (t : Tree). Triples 0 1 t w s) (ap treeOf (sym (A .read) ∙ B .read)) ∙ B .again)
 
 -- a predicate that is good stands in the table
-in-table : (r : Fields) (w predicates : List ℕ) (p : ℕ) → 1 ≤ r .n → limitsOf (stateOf r w []) predicates .predicates p ≡ true → p * predicateWords (recordOf r) + predicateWords (recordOf r) ≤ length predicates
+in-table : (r : Fields) (w predicates : List ℕ) (p : ℕ) → 1 ≤ r .sizes .n → limitsOf (stateOf r w []) predicates .predicates p ≡ true → p * predicateWords r + predicateWords r ≤ length predicates
 unfolding FormulaRows
 in-table r w predicates p n g =
-    let z : (p + 1) * predicateWords (recordOf r) ≤ length predicates = formula-rows asserting [] predicates [] (stateOf r w []) .0 .predicates p n .0 g .0 in
+    let z : (p + 1) * predicateWords r ≤ length predicates = formula-rows asserting [] predicates [] (stateOf r w []) .0 .predicates p n .0 g .0 in
     let e : p + 1 ≡ suc p = omega arith in
-    let m = ap (λ (k : ℕ). k * predicateWords (recordOf r)) e ∙ suc-mul p (predicateWords (recordOf r)) in
+    let m = ap (λ (k : ℕ). k * predicateWords r) e ∙ suc-mul p (predicateWords r) in
     omega (arith, z, m)
 
 -- no triple is of a step that is past all of them
@@ -151,23 +152,23 @@ only-none n (x ∷ xs) B = ap (λ (b : Bool). cond b (x ∷ only stepOf n xs) (o
 -- The conditions: a text that is read, and the walk that builds them
 module _ (r : Fields) (text w predicates out : List ℕ) (S : Standard w (r .count)) (t : Tree) (R : judgeText (limits (counting (known r predicates) (r .count)) w) text ≡ fine t []) where
   abbrev pub program : Outcome (List Triple)
-  program = Triples 0 1 t w (begin (recordOf r))
+  program = Triples 0 1 t w (begin r)
 
   named : numbers (limits (counting (known r predicates) (r .count)) w) t ≡ true
   named = T→eq (numbers (limits (counting (known r predicates) (r .count)) w) t) (reads (limits (counting (known r predicates) (r .count)) w) .exactly text t .0 R .1)
 
   pub each-good : Each (Good (limits (counting (known r predicates) (r .count)) w) 32) (program .answer)
-  each-good = triples-good (limits (counting (known r predicates) (r .count)) w) 32 0 1 t w (begin (recordOf r)) named (omega (arith, reads (limits (counting (known r predicates) (r .count)) w) .exactly text t .0 R .2))
+  each-good = triples-good (limits (counting (known r predicates) (r .count)) w) 32 0 1 t w (begin r) named (omega (arith, reads (limits (counting (known r predicates) (r .count)) w) .exactly text t .0 R .2))
 
   steps-below : Below stepOf 33 (program .answer)
   steps-below = good-below (limits (counting (known r predicates) (r .count)) w) 32 (program .answer) each-good
 
-  arrows : EachArrow (Names (recordOf r) w) t
+  arrows : EachArrow (Names r w) t
   arrows = named-arrows predicates (stateOf r w []) t named
 
-  module _ {w₁ t₁ out₁ : List ℕ} {y : Walk} (W : Walked (listing 33 (known r predicates) (r .count)) text w out 0 (begin (recordOf r)) w₁ t₁ out₁ y) where
+  module _ {w₁ t₁ out₁ : List ℕ} {y : Walk} (W : Walked (listing 33 (known r predicates) (r .count)) text w out 0 (begin r) w₁ t₁ out₁ y) where
     seen-built : seenAt y w₁ out₁ ≡ listedAs 33 program (outOf out 0)
-    seen-built = subst (λ (v : Verdict). Came (listing 33 (known r predicates) (r .count)) outermost text w out (begun 0 (begin (recordOf r))) v w₁ out₁ y) R (W .came) .2
+    seen-built = subst (λ (v : Verdict). Came (listing 33 (known r predicates) (r .count)) outermost text w out (begun 0 (begin r)) v w₁ out₁ y) R (W .came) .2
 
     built-is : _≡_ {A = Outcome (List Triple)} (record { words = w₁; store = y .store; answer = program .answer }) program
     built-is = ap (λ (x : Seen). record { words = x .words; store = x .store; answer = program .answer }) seen-built
@@ -191,7 +192,7 @@ module _ (r : Fields) (text w predicates out : List ℕ) (S : Standard w (r .cou
             rest = [];
             read = ap (λ (v : List ℕ). judgeText (limits (counting (known r predicates) (r .count)) v) text) (L .0) ∙ ap (λ (x : Limits). judgeText x text) (limits-same (counting (known r predicates) (r .count)) w w₁ (r .count) (y .store .count) (omega arith) (W .extends)) ∙ R;
             triples = program .answer;
-            again = subst (λ (v : List ℕ). Triples 0 1 t v (y .store) ≡ pure (program .answer) v (y .store)) (sym (L .0)) (triples-again 0 1 t w (begin (recordOf r)) S (omega (arith, S .two)) A f w₁ (y .store) (later (L .1)));
+            again = subst (λ (v : List ℕ). Triples 0 1 t v (y .store) ≡ pure (program .answer) v (y .store)) (sym (L .0)) (triples-again 0 1 t w (begin r) S (omega (arith, S .two)) A f w₁ (y .store) (later (L .1)));
             steps = steps-below;
           }
 
@@ -204,7 +205,7 @@ module _ (r : Fields) (text w predicates out : List ℕ) (S : Standard w (r .cou
             two = S .two;
             older = W .extends .more;
             built = formula-built e;
-            many = m ∙ sym (triples-many 0 1 t w (begin (recordOf r)));
+            many = m ∙ sym (triples-many 0 1 t w (begin r));
             fits = let z = ap (length {A = ℕ}) built-out in omega (arith, h, z);
           }
 
@@ -217,18 +218,18 @@ module _ (r : Fields) (text w predicates out : List ℕ) (S : Standard w (r .cou
 
         conditions-full : b ≡ true → step (nodeCall (conditions t)) (stateOf r w l) ≡ record { answer = refused 9; after = stateOf r w₂ l }
         unfolding finishNode
-        conditions-full e = conditions-act ∙ nine-acts (stateOf r w l) program _ built-is o (builds-clear (formula-builds (recordOf r) w S t arrows)) e
+        conditions-full e = conditions-act ∙ nine-acts (stateOf r w l) program _ built-is o (builds-clear (formula-builds r w S t arrows)) e
 
-        conditions-built : b ≡ false → step (nodeCall (conditions t)) (stateOf r w l) ≡ record { answer = done (triples (program .answer)); after = stateOf (grown r (y .store .count)) w₂ l }
+        conditions-built : b ≡ false → step (nodeCall (conditions t)) (stateOf r w l) ≡ record { answer = done (triples (program .answer)); after = stateOf (withCount r (y .store .count)) w₂ l }
         unfolding finishNode closed
         conditions-built e = conditions-act ∙ done-acts (stateOf r w l) program _ built-is o e
 
         -- 9 of the conditions
         pub comes-nine : (k : Making) → predicatesOf t ≤ length out / 3 → b ≡ true → comesTo k r w l text predicates out ≡ refusedItself (refusedBy 9) (stateOf r w₂ l) out
-        comes-nine k h e = comes-on k r w l text predicates out t R h ∙ ap (λ (x : Result). afterBuilding k (recordOf r) predicates out (x .answer) (x .after)) (conditions-full e)
+        comes-nine k h e = comes-on k r w l text predicates out t R h ∙ ap (λ (x : Result). afterBuilding k r predicates out (x .answer) (x .after)) (conditions-full e)
 
-        comes-listed : (k : Making) → predicatesOf t ≤ length out / 3 → b ≡ false → comesTo k r w l text predicates out ≡ makeListed k (recordOf r) predicates out (inOrder (program .answer)) (stateOf (grown r (y .store .count)) w₂ l)
-        comes-listed k h e = comes-on k r w l text predicates out t R h ∙ ap (λ (x : Result). afterBuilding k (recordOf r) predicates out (x .answer) (x .after)) (conditions-built e)
+        comes-listed : (k : Making) → predicatesOf t ≤ length out / 3 → b ≡ false → comesTo k r w l text predicates out ≡ makeListed k r predicates out (inOrder (program .answer)) (stateOf (withCount r (y .store .count)) w₂ l)
+        comes-listed k h e = comes-on k r w l text predicates out t R h ∙ ap (λ (x : Result). afterBuilding k r predicates out (x .answer) (x .after)) (conditions-built e)
 
         -- all is written
         pub listed-in : {w₃ t₃ out₃ : List ℕ} (listed : ℕ) → b ≡ false → listed ≡ predicatesOf t → listed ≤ length out / 3 → ListedAs text w₂ out₁ (known r predicates) (r .count) (y .store) w₃ t₃ out₃
@@ -239,7 +240,7 @@ module _ (r : Fields) (text w predicates out : List ℕ) (S : Standard w (r .cou
             let os = inOrder ts in
             let q = one-built (L .built) (formula-built e) in
             let ws : out₃ ≡ listedOver os out = L .words ∙ ap₂ (λ (us : List Triple) (o : List ℕ). listedOver (inOrder us) o) q built-out in
-            let n : listed ≡ length os = m ∙ sym (triples-many 0 1 t w (begin (recordOf r))) ∙ sym (byStep-length stepOf ts) in
+            let n : listed ≡ length os = m ∙ sym (triples-many 0 1 t w (begin r)) ∙ sym (byStep-length stepOf ts) in
             let from : triplesFrom out₃ 0 listed ≡ os = ap₂ (λ (o : List ℕ) (k : ℕ). triplesFrom o 0 k) ws n ∙ words-triples os (drop (3 * length os) out) in
             let M = memory-told (stateOf r w l) .none (valid-rows (stateOf r w l) K []) in
             let valid = subst Valid (ap (λ (x : Result). x .after) (conditions-built e)) (stays-valid (nodeCall (conditions t)) (stateOf r w l) K) in
@@ -247,14 +248,14 @@ module _ (r : Fields) (text w predicates out : List ℕ) (S : Standard w (r .cou
             let long : length out₃ ≡ length out = ap (length {A = ℕ}) ws ∙ words-long os out (omega (arith, n, h)) in
             let each = subst (Each (Good (limits (counting (known r predicates) (r .count)) w) 32)) (sym from) (each-in-order (Good (limits (counting (known r predicates) (r .count)) w) 32) ts each-good) in
             record {
-              comes = λ k. comes-listed k (omega (arith, m, h)) e ∙ ap₂ (λ (us : List Triple) (v : List ℕ). makeListed k (recordOf r) predicates out us (stateOf (grown r (y .store .count)) v l)) (sym from) (sym (L .same));
+              comes = λ k. comes-listed k (omega (arith, m, h)) e ∙ ap₂ (λ (us : List Triple) (v : List ℕ). makeListed k r predicates out us (stateOf (withCount r (y .store .count)) v l)) (sym from) (sym (L .same));
               words = ws ∙ ap (λ (us : List Triple). listedOver us out) (sym from);
               may =
                   record {
                     ready =
                         record {
-                          valid = subst (λ (v : List ℕ). Valid (stateOf (grown r (y .store .count)) v l)) (sym (L .same)) valid;
-                          sound = subst (λ (v : List ℕ). Sound v t₃ (begin (recordOf (grown r (y .store .count))))) (sym (L .same)) sound;
+                          valid = subst (λ (v : List ℕ). Valid (stateOf (withCount r (y .store .count)) v l)) (sym (L .same)) valid;
+                          sound = subst (λ (v : List ℕ). Sound v t₃ (begin (withCount r (y .store .count)))) (sym (L .same)) sound;
                         };
                     named = λ i j.
                         record {
@@ -267,14 +268,14 @@ module _ (r : Fields) (text w predicates out : List ℕ) (S : Standard w (r .cou
             }
 
 -- `prepare`, from its first walk to its end
-module _ {r : Fields} {text w t out w₀ t₀ out₀ : List ℕ} {x : Walk} (predicates : List ℕ) (P : Prepares r w t) (X : Walked (counting (known r predicates) (r .count)) text w out 0 (begin (recordOf r)) w₀ t₀ out₀ x) where
+module _ {r : Fields} {text w t out w₀ t₀ out₀ : List ℕ} {x : Walk} (predicates : List ℕ) (P : Prepares r w t) (X : Walked (counting (known r predicates) (r .count)) text w out 0 (begin r) w₀ t₀ out₀ x) where
   pub prepared-faulty : (x .row ≡ 0 → ⊥) → (k : Making) (l : List ℕ) → Valid (stateOf r w l) → comesTo k r w l text predicates out ≡ refusedItself (faulty (x .row) (x .at)) (stateOf r w₀ l) out₀
   prepared-faulty n k l K =
       let C = counted-stopped X n in
       comes-faulty k r w l text predicates out (x .row) (x .at) (X .within) (C .0) ∙ ap₂ (λ (v o : List ℕ). refusedItself (faulty (x .row) (x .at)) (stateOf r v l) o) (sym (C .1)) (sym (C .2))
 
   module _ (z : x .row ≡ 0) where
-    read : Counted text w out (begin (recordOf r)) (limits (counting (known r predicates) (r .count)) w) w₀ out₀ x
+    read : Counted text w out (begin r) (limits (counting (known r predicates) (r .count)) w) w₀ out₀ x
     read = counted X z
 
     long : length out₀ ≡ length out
@@ -285,12 +286,12 @@ module _ {r : Fields} {text w t out w₀ t₀ out₀ : List ℕ} {x : Walk} (pre
         let m = read .many in
         comes-short k r w l text predicates out (read .tree) (read .is) (omega (arith, h, m, long)) ∙ ap₂ (λ (v o : List ℕ). refusedItself (refusedBy 13) (stateOf r v l) o) (sym (read .same)) (sym (read .same-out))
 
-    pub may-build : MayWalk (listing 33 (known r predicates) (r .count)) w₀ t₀ 0 (begin (recordOf r))
+    pub may-build : MayWalk (listing 33 (known r predicates) (r .count)) w₀ t₀ 0 (begin r)
     may-build = record { sound = subst (λ (s : Store). Sound w₀ t₀ s) (read .same-store) (X .sound); two = P .standard .two; older = omega arith; counts = tt }
 
-    module _ (h : x .listed ≤ length out₀ / 3) {w₁ t₁ out₁ : List ℕ} {y : Walk} (Y₀ : Walked (listing 33 (known r predicates) (r .count)) text w₀ out₀ 0 (begin (recordOf r)) w₁ t₁ out₁ y) where
-      Y : Walked (listing 33 (known r predicates) (r .count)) text w out 0 (begin (recordOf r)) w₁ t₁ out₁ y
-      Y = subst₂ (λ (v o : List ℕ). Walked (listing 33 (known r predicates) (r .count)) text v o 0 (begin (recordOf r)) w₁ t₁ out₁ y) (read .same) (read .same-out) Y₀
+    module _ (h : x .listed ≤ length out₀ / 3) {w₁ t₁ out₁ : List ℕ} {y : Walk} (Y₀ : Walked (listing 33 (known r predicates) (r .count)) text w₀ out₀ 0 (begin r) w₁ t₁ out₁ y) where
+      Y : Walked (listing 33 (known r predicates) (r .count)) text w out 0 (begin r) w₁ t₁ out₁ y
+      Y = subst₂ (λ (v o : List ℕ). Walked (listing 33 (known r predicates) (r .count)) text v o 0 (begin r) w₁ t₁ out₁ y) (read .same) (read .same-out) Y₀
 
       fits : predicatesOf (read .tree) ≤ length out / 3
       fits = let m = read .many in omega (arith, h, m, long)

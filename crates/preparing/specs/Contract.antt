@@ -10,14 +10,15 @@ use Rattle.conditions.specs.User.{isUser}
 use Rattle.conditions.specs.declared.Store.{Store}
 use Rattle.conditions.specs.Build.{pure}
 use Rattle.conditions.specs.Contract.{Sound}
+use Rattle.model.specs.Record.{withCount}
 use Rattle.model.specs.Formula.{Triple, Triples}
 use Rattle.model.specs.Step.{begin}
 use Rattle.model.specs.Frames.{Valid}
 use Rattle.model.specs.Table.{InRange}
 use Rattle.tokens.specs.Contract.{withinTable}
 use Rattle.formula_calls.specs.Call.{Making, limitsOf, inOrder, listedOver, refusedBy, faulty, FormulaResult, byVerdict, refusedItself, makeListed, finishFormula}
-use Rattle.rows.specs.declared.Fields.{Fields}
-use Rattle.rows.specs.Contract.{recordOf, stateOf}
+use Rattle.model.specs.declared.Fields.{Fields}
+use Rattle.rows.specs.Contract.{stateOf}
 use Rattle.making.specs.Contract.{triplesFrom, MayMake}
 use Rattle.preparing.specs.declared.Prepared.{Prepared}
 use Rattle.preparing.specs.declared.Prepared.the-variants as prepared
@@ -53,23 +54,19 @@ pub record ListedAs (text w out : List ℕ) (predicates count : ℕ) (s : Store)
 
 -- a memory that rows 1 and 2 do not refuse, with a computed table that is right for it
 pub record Prepares (r : Fields) (w t : List ℕ) : Type 0 where
-  pub range : InRange (r .n) (r .w)
+  pub range : InRange (r .sizes)
   pub standard : Standard w (r .count)
-  pub sound : Sound w t (begin (recordOf r))
+  pub sound : Sound w t (begin r)
 
 -- what the call comes to behind rows 1 to 3
 abbrev pub comesTo : Making → Fields → List ℕ → List ℕ → List ℕ → List ℕ → List ℕ → FormulaResult
 comesTo k r w l text predicates out = finishFormula k predicates out (stateOf r w l) (byVerdict text out (judgeText (limitsOf (stateOf r w l) predicates) text))
 
--- with another count of nodes
-abbrev pub grown : Fields → ℕ → Fields
-grown r c = record { n = r .n; w = r .w; count = c; entries = r .entries; asserted = r .asserted; checked = r .checked }
-
 -- its triples stand in the answer words, and what is left is to make its accesses
 pub record ListedIn (r : Fields) (w l text predicates out w′ t′ out′ : List ℕ) (count listed : ℕ) : Type 0 where
-  pub comes : (k : Making) → comesTo k r w l text predicates out ≡ makeListed k (recordOf r) predicates out (triplesFrom out′ 0 listed) (stateOf (grown r count) w′ l)
+  pub comes : (k : Making) → comesTo k r w l text predicates out ≡ makeListed k r predicates out (triplesFrom out′ 0 listed) (stateOf (withCount r count) w′ l)
   pub words : out′ ≡ listedOver (triplesFrom out′ 0 listed) out
-  pub may : MayMake (grown r count) w′ l t′ predicates out′ listed
+  pub may : MayMake (withCount r count) w′ l t′ predicates out′ listed
 
 -- whatever is made, and whatever the list is
 abbrev pub PreparedAs : Fields → List ℕ → List ℕ → List ℕ → List ℕ → List ℕ → List ℕ → List ℕ → Prepared → Type 0

@@ -6,7 +6,7 @@ use conditions::Store;
 use conditions::Table;
 use listing::Pass;
 use listing::Plan;
-use rows::Fields;
+use model::Fields;
 
 // Refused, for the text at a place in it; or listed in the answer words, with the count of nodes that its conditions left.
 pub enum Prepared {
@@ -56,7 +56,7 @@ pub fn prepare(
     ensures { λ p. ⌜ PreparedAs r (now (words .entry)) (now (text .entry)) (now (predicates .entry)) (now (answer .entry)) (now (words .exit)) (now (table .exit)) (now (answer .exit)) p ⌝ }
 {
     let known = predicates.len() / making::predicate_words(r);
-    let s = r.begin();
+    let s = rows::begin(r);
     let counting = Plan {
         pass: Pass::Count,
         predicates: known,

@@ -18,8 +18,8 @@ use Rattle.model.specs.Frames.{Valid, PortsValid}
 use Rattle.model.proofs.FactLaws.{read-facts}
 use Rattle.model.proofs.ProgramLaws.{read-program}
 use Rattle.access.specs.Contract.{shape, Looks, Nodes}
-use Rattle.rows.specs.declared.Fields.{Fields}
-use Rattle.rows.specs.Contract.{recordOf, unlessRefused, argumentRows, portedOf}
+use Rattle.model.specs.declared.Fields.{Fields}
+use Rattle.rows.specs.Contract.{unlessRefused, argumentRows, portedOf}
 use Rattle.rows.proofs.CallLaws.{row-passes, same-rows, no-users, no-pairs, facts-look}
 use lib.Dec.{eqb}
 use Rattle.model.proofs.PortLaws.{held-at, held-length}
@@ -51,12 +51,12 @@ module _ (s : State) (p : ℕ) (e a out : List ℕ) where
       later = rw (K .one, K .two, K .three, P .three) refl
 
       -- then 4
-      pub read-lengths : (eqb (length e) 2 && eqb (length a) (2 * s .rec .n) && eqb (length out) (2 * s .rec .w)) ≡ false → 4 ≡ firstRow rows
+      pub read-lengths : (eqb (length e) 2 && eqb (length a) (model.addressWords (s .rec)) && eqb (length out) (model.dataWords (s .rec))) ≡ false → 4 ≡ firstRow rows
       read-lengths q = sym (later ∙ (rw q refl))
 
-      module _ (le : length e ≡ 2) (la : length a ≡ 2 * s .rec .n) (lo : length out ≡ 2 * s .rec .w) where
+      module _ (le : length e ≡ 2) (la : length a ≡ model.addressWords (s .rec)) (lo : length out ≡ model.dataWords (s .rec)) where
         long : firstRow rows ≡ firstRow (drop 4 rows)
-        long = later ∙ row-passes 4 (drop 4 rows) (both-and (both-and (eq-eqb (length e) 2 le) (eq-eqb (length a) (2 * s .rec .n) la)) (eq-eqb (length out) (2 * s .rec .w) lo))
+        long = later ∙ row-passes 4 (drop 4 rows) (both-and (both-and (eq-eqb (length e) 2 le) (eq-eqb (length a) (model.addressWords (s .rec)) la)) (eq-eqb (length out) (model.dataWords (s .rec)) lo))
 
         -- then 14
         pub read-port : 3 < p → 14 ≡ firstRow rows
@@ -67,7 +67,7 @@ module _ (s : State) (p : ℕ) (e a out : List ℕ) where
         read-row-is h =
             long
             ∙ row-passes 14 (drop 5 rows) (le-leb p 3 h)
-            ∙ same-rows (and-holds (users r w e && users r w a) (no-users r w)) (and-holds (legalPairs r w e 1 && legalPairs r w a (r .n)) (no-pairs r w []))
+            ∙ same-rows (and-holds (users r w e && users r w a) (no-users r w)) (and-holds (legalPairs r w e 1 && legalPairs r w a (r .sizes .n)) (no-pairs r w []))
           where
             r : model.Record
             r = s .rec
@@ -89,27 +89,27 @@ leaves-words (suc k) out = refl
 
 -- what its rows leave
 pub record ReadHolds (r : Fields) (w l ps : List ℕ) (p : ℕ) (e a out : List ℕ) : Type 0 where
-  pub wide : r .w ≤ 16
-  pub looks : Looks (r .n) (r .w) (r .entries) (r .count) l a
+  pub wide : r .sizes .w ≤ 16
+  pub looks : Looks (r .sizes) (r .entries) (r .count) l a
   pub port : p ≤ 3
-  pub held-long : length (model.heldWord (recordOf r) ps p) ≡ 2 * r .w
-  pub held : Nodes (r .count) (model.heldWord (recordOf r) ps p)
+  pub held-long : length (model.heldWord r ps p) ≡ model.dataWords r
+  pub held : Nodes (r .count) (model.heldWord r ps p)
   pub two : length e ≡ 2
   pub enable : (k : ℕ) → k < 2 → getD e k 0 < r .count
-  pub word : length out ≡ 2 * r .w
-  pub clears : clearOf (built.Read (recordOf r) l (model.heldWord (recordOf r) ps p) (getD e 0 0) (getD e 1 0) a w (begin (recordOf r)) .words) (r .count) ≡ clearOf w (r .count)
+  pub word : length out ≡ model.dataWords r
+  pub clears : clearOf (built.Read r l (model.heldWord r ps p) (getD e 0 0) (getD e 1 0) a w (begin r) .words) (r .count) ≡ clearOf w (r .count)
 
-pub read-holds : (r : Fields) (w l ps : List ℕ) (p : ℕ) (e a out : List ℕ) → length ps ≡ 128 → firstRow (readRows (recordOf r) w l ps p e a out) ≡ 0 → ReadHolds r w l ps p e a out
+pub read-holds : (r : Fields) (w l ps : List ℕ) (p : ℕ) (e a out : List ℕ) → length ps ≡ 128 → firstRow (readRows r w l ps p e a out) ≡ 0 → ReadHolds r w l ps p e a out
 read-holds r w l ps p e a out long z =
     let F = read-facts (portedOf r w l ps) p e a out z in
     let wide = F .memory .range .w-most in
-    let h = held-length (recordOf r) ps p long wide (F .port) in
+    let h = held-length r ps p long wide (F .port) in
     record {
       wide = wide;
       looks = facts-look r w l a (record { range = F .memory .range; standard = F .memory .standard; listed = F .memory .listed }) (record { long = F .address .long; names = F .address .names; legal = F .address .legal });
       port = F .port;
       held-long = h;
-      held = record { at = λ i b. rw (held-at (recordOf r) ps p i (omega (arith, b, h))) (F .ports p (omega (arith, F .port)) i (omega (arith, b, h)) .below) };
+      held = record { at = λ i b. rw (held-at r ps p i (omega (arith, b, h))) (F .ports p (omega (arith, F .port)) i (omega (arith, b, h)) .below) };
       two = F .enable .long;
       enable = λ k h. F .enable .names k (omega arith) .below;
       word = F .answer-long;
@@ -117,7 +117,7 @@ read-holds r w l ps p e a out long z =
     }
 
 -- a read goes by n, w and the number of entries of its record
-pub read-shape : (r : Fields) (l held : List ℕ) (h m : ℕ) (a w : List ℕ) (s : Store) → built.Read (shape (r .n) (r .w) (r .entries)) l held h m a w s ≡ built.Read (recordOf r) l held h m a w s
+pub read-shape : (r : Fields) (l held : List ℕ) (h m : ℕ) (a w : List ℕ) (s : Store) → built.Read (shape (r .sizes) (r .entries)) l held h m a w s ≡ built.Read r l held h m a w s
 unfolding built.Read built.Look built.entryStep
 read-shape r l held h m a w s = refl
 
@@ -131,11 +131,11 @@ pub read-done : (x : Result) (r : Fields) (w l ps : List ℕ) (p : ℕ) (word ou
 read-done x r w l ps p word out′ ps′ X q e = rw (q, e) X
 
 -- row 3 of the ports by its test
-module _ (r : Fields) (w ps : List ℕ) {b : Bool} (e : b ≡ every (λ (p : ℕ). every (λ (i : ℕ). isUser w (r .count) (getD ps (model.portAt p + i) 0)) 0 (2 * r .w)) 0 4) where
-  pub ports-fail : not b ≡ true → portsRow (recordOf r) w ps ≡ false
+module _ (r : Fields) (w ps : List ℕ) {b : Bool} (e : b ≡ every (λ (p : ℕ). every (λ (i : ℕ). isUser w (r .count) (getD ps (model.portAt p + i) 0)) 0 (model.dataWords r)) 0 4) where
+  pub ports-fail : not b ≡ true → portsRow r w ps ≡ false
   unfolding portsRow
   ports-fail q = sym e ∙ not-true b q
 
-  pub ports-hold : not b ≡ false → portsRow (recordOf r) w ps ≡ true
+  pub ports-hold : not b ≡ false → portsRow r w ps ≡ true
   unfolding portsRow
   ports-hold q = sym e ∙ not-false b q

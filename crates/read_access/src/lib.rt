@@ -3,16 +3,17 @@ ghost use mathlib.Core.Path.{_≡_};
 ghost use Prim.Native.Nat.{ℕ, _+_, _*_, _<_, _≤_};
 ghost use lib.ListN.{length};
 ghost use Rattle.conditions.specs.Contract.{Sound};
+ghost use Rattle.model.specs.Record.{addressWords, dataWords};
 ghost use Rattle.model.specs.Rows.{firstRow, readRows};
 ghost use Rattle.model.specs.Step.{filled, begin, read, access, refusal};
 ghost use Rattle.model.specs.Frames.{Valid, PortsValid};
-ghost use Rattle.rows.specs.Contract.{recordOf, portedOf, unlessRefused};
+ghost use Rattle.rows.specs.Contract.{portedOf, unlessRefused};
 ghost use Rattle.read_access.specs.Contract.{Reads, ReadsOn};
 use access::ControlNode;
 use access::ControlPair;
 use conditions::Table;
+use model::Fields;
 use rows::Done;
-use rows::Fields;
 
 // The row that refuses a read of a valid memory with valid ports, or 0. A read has no data.
 fn read_row(
@@ -25,13 +26,13 @@ fn read_row(
     address: &[u32],
     answer: &[u32],
 ) -> u32
-    requires { ⌜ Valid (portedOf r (now words) (now list) (now ports)) × PortsValid (portedOf r (now words) (now list) (now ports)) × (length (now enable) ≡ 2) × (length (now address) ≡ 2 * r .n) × (length (now answer) ≡ 2 * r .w) ⌝ }
-    ensures { λ x. ⌜ x ≡ firstRow (readRows (recordOf r) (now (words .entry)) (now (list .entry)) (now (ports .entry)) port (now (enable .entry)) (now (address .entry)) (now (answer .entry))) ⌝ }
+    requires { ⌜ Valid (portedOf r (now words) (now list) (now ports)) × PortsValid (portedOf r (now words) (now list) (now ports)) × (length (now enable) ≡ 2) × (length (now address) ≡ addressWords r) × (length (now answer) ≡ dataWords r) ⌝ }
+    ensures { λ x. ⌜ x ≡ firstRow (readRows r (now (words .entry)) (now (list .entry)) (now (ports .entry)) port (now (enable .entry)) (now (address .entry)) (now (answer .entry))) ⌝ }
 {
     if 3 < port {
         return 14;
     }
-    r.argument_row(words, enable, 1, address, &address[..0], 0)
+    rows::argument_row(r, words, enable, 1, address, &address[..0], 0)
 }
 
 // A read that no row before 9 refuses; the word is its own.
@@ -47,26 +48,23 @@ fn read_into(
     answer: &mut [u32],
     word: &mut [u32],
 ) -> Done
-    requires { ⌜ (refusal (access (read port (now enable) (now address) (now answer))) (portedOf r (now words) (now list) (now ports)) ≡ 0) × Sound (now words) (now table) (begin (recordOf r)) × (length (now word) ≡ 2 * r .w) × (length (now ports) ≡ 128) ⌝ }
+    requires { ⌜ (refusal (access (read port (now enable) (now address) (now answer))) (portedOf r (now words) (now list) (now ports)) ≡ 0) × Sound (now words) (now table) (begin r) × (length (now word) ≡ dataWords r) × (length (now ports) ≡ 128) ⌝ }
     ensures { λ x. ⌜ ReadsOn (portedOf r (now (words .entry)) (now (list .entry)) (now (ports .entry))) port (now (enable .entry)) (now (address .entry)) (now (answer .entry)) (portedOf (x .after) (now (words .exit)) (now (list .entry)) (now (ports .exit))) (unlessRefused (x .row) (filled (now (answer .exit)))) (now (answer .exit)) (now (table .exit)) ⌝ }
 {
     let c = ControlPair {
         h: ControlNode(enable[0]),
         l: ControlNode(enable[1]),
     };
-    let n = r.n as usize;
-    let w = r.w as usize;
     let entries = r.entries as usize;
-    let s = r.begin();
+    let s = rows::begin(r);
     let all = &ports[..];
     let at = port * 32;
-    let end = at + 2 * w;
+    let end = at + ranges::data_words(r.sizes);
     let u = access::read_word(
         words,
         table,
         s,
-        n,
-        w,
+        r.sizes,
         entries,
         list,
         c,
@@ -96,7 +94,7 @@ pub fn read_on(
     address: &[u32],
     answer: &mut [u32],
 ) -> Done
-    requires { ⌜ Valid (portedOf r (now words) (now list) (now ports)) × PortsValid (portedOf r (now words) (now list) (now ports)) × Sound (now words) (now table) (begin (recordOf r)) × (length (now enable) ≡ 2) × (length (now address) ≡ 2 * r .n) × (length (now answer) ≡ 2 * r .w) ⌝ }
+    requires { ⌜ Valid (portedOf r (now words) (now list) (now ports)) × PortsValid (portedOf r (now words) (now list) (now ports)) × Sound (now words) (now table) (begin r) × (length (now enable) ≡ 2) × (length (now address) ≡ addressWords r) × (length (now answer) ≡ dataWords r) ⌝ }
     ensures { λ x. ⌜ ReadsOn (portedOf r (now (words .entry)) (now (list .entry)) (now (ports .entry))) port (now (enable .entry)) (now (address .entry)) (now (answer .entry)) (portedOf (x .after) (now (words .exit)) (now (list .entry)) (now (ports .exit))) (unlessRefused (x .row) (filled (now (answer .exit)))) (now (answer .exit)) (now (table .exit)) ⌝ }
 {
     let k = read_row(r, words, list, ports, port, enable, address, answer);
@@ -104,7 +102,7 @@ pub fn read_on(
         return Done { after: r, row: k };
     }
     let mut word: [u32; 32] = [0; 32];
-    let w = r.w as usize;
+    let size = ranges::data_words(r.sizes);
     read_into(
         r,
         words,
@@ -115,7 +113,7 @@ pub fn read_on(
         enable,
         address,
         answer,
-        &mut word[..2 * w],
+        &mut word[..size],
     )
 }
 
@@ -132,17 +130,17 @@ pub fn read(
 ) -> Done
     ensures { λ x. ⌜ Reads (portedOf r (now (words .entry)) (now (list .entry)) (now (ports .entry))) port (now (enable .entry)) (now (address .entry)) (now (answer .entry)) (portedOf (x .after) (now (words .exit)) (now (list .entry)) (now (ports .exit))) (unlessRefused (x .row) (filled (now (answer .exit)))) (now (answer .exit)) ⌝ }
 {
-    let k = r.memory_row(words, list);
+    let k = rows::memory_row(r, words, list);
     if k != 0 {
         return Done { after: r, row: k };
     }
-    let n = r.n as usize;
-    let w = r.w as usize;
+    let address_size = ranges::address_words(r.sizes);
+    let answer_size = ranges::data_words(r.sizes);
     let held = &ports[..];
-    if !ports::all_name_nodes(words, r.count, held, w) {
+    if !ports::all_name_nodes(words, r.count, held, answer_size) {
         return Done { after: r, row: 3 };
     }
-    if !((enable.len() == 2) & (address.len() == 2 * n) & (answer.len() == 2 * w)) {
+    if !((enable.len() == 2) & (address.len() == address_size) & (answer.len() == answer_size)) {
         return Done { after: r, row: 4 };
     }
     let mut table: Table = [0; 32768];

@@ -11,6 +11,7 @@ ghost use Rattle.reading.specs.Contract.{sectionsOf};
 use super::Loaded;
 use super::bytes::number_at;
 use super::bytes::wide;
+use semantics::Sizes;
 
 // Stores the node at a place of the file: its variable, low and high child.
 fn store_from(bytes: &[u8], from: usize, node: u32, words: &mut [u32])
@@ -50,7 +51,11 @@ fn early_row(bytes: &[u8], words: &[u32]) -> u32
     if bytes.len() < 2 {
         return 10;
     }
-    if !ranges::in_range(wide(bytes[0]), wide(bytes[1])) {
+    let z = Sizes {
+        n: wide(bytes[0]),
+        w: wide(bytes[1]),
+    };
+    if !ranges::in_range(z) {
         return 1;
     }
     if bytes.len() < 4 {

@@ -6,16 +6,16 @@ use Rattle.model.specs.Record as model
 use Rattle.model.specs.Step.{Call, Answer, Result, step, answerWords}
 use Rattle.model.specs.Chain.{Answered}
 use Rattle.memory.specs.declared.Record.{Record}
-use Rattle.memory.specs.Contract.{recordOf, stateOf}
+use Rattle.memory.specs.Contract.{stateOf}
 use Rattle.record_words.specs.Words.{recordIn, wordsOf}
 use Rattle.record_words.specs.Calls.{numberOf, outOf, left, leftBy, called}
 
 -- a call of memory from the record m, which the words r are, to m′, of which r′ are the words; its answer x is y
 pub call-is : {A : Type 0} (g : A → Answer) {x y : A} (c : Call) {m m′ : Record} {r′ w′ l′ ps′ : List ℕ} (r w l ps a : List ℕ) (v : ℕ)
     → x ≡ y
-    → recordOf m ≡ recordIn r
+    → m .fields ≡ recordIn r
     → Answered c (stateOf m w l ps) (stateOf m′ w′ l′ ps′) (g x)
-    → r′ ≡ wordsOf (recordOf m′)
+    → r′ ≡ wordsOf (m′ .fields)
     → left (numberOf (g y)) r′ w′ l′ ps′ (answerWords (g y) a) (outOf (g y) v) ≡ called c r w l ps a v
 unfolding called
 call-is g {x} {y} c {m} {m′} {r′} {w′} {l′} {ps′} r w l ps a v e i n o =

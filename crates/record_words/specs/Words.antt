@@ -7,10 +7,10 @@ use Rattle.model.specs.Step.{State}
 
 -- "n, w, node count, entry count, assert condition, check condition"
 abbrev pub recordIn : List ℕ → Record
-recordIn r = record { n = getD r 0 0; w = getD r 1 0; count = getD r 2 0; entries = getD r 3 0; asserted = getD r 4 0; checked = getD r 5 0 }
+recordIn r = record { sizes = record { n = getD r 0 0; w = getD r 1 0 }; count = getD r 2 0; entries = getD r 3 0; asserted = getD r 4 0; checked = getD r 5 0 }
 
 abbrev pub wordsOf : Record → List ℕ
-wordsOf r = r .n ∷ r .w ∷ r .count ∷ r .entries ∷ r .asserted ∷ r .checked ∷ []
+wordsOf r = r .sizes .n ∷ r .sizes .w ∷ r .count ∷ r .entries ∷ r .asserted ∷ r .checked ∷ []
 
 -- record, node words, list and ports of a call
 abbrev pub stateIn : List ℕ → List ℕ → List ℕ → List ℕ → State

@@ -4,11 +4,11 @@ use mathlib.Core.Bool.{Bool, true, false, cond, _&&_, true≢false}
 use mathlib.Core.List.{List, [], _∷_, _++_}
 use Prim.Native.Nat.{ℕ, zero, suc, _+_, _*_, _<_, _≤_}
 use native.Mathlib.Omega.{arith}
-use lib.Dec.{eqb, ltb, leb}
+use lib.Dec.{eqb}
 use lib.ListN.{length, getD, drop}
-use borrow.Author.Tests.{eq-eqb, le-leb, lt-leb, ltb-true, ltb-false}
+use borrow.Author.Tests.{eq-eqb}
 use Rattle.nodes.specs.Search.{every}
-use Rattle.nodes.proofs.BoolLaws.{split, both-and}
+use Rattle.nodes.proofs.BoolLaws.{both-and}
 use Rattle.nodes.proofs.SearchLaws.{every-is, every-step, every-end}
 use Rattle.conditions.specs.Stores.{Standard, clearOf}
 use Rattle.conditions.specs.User.{isUser}
@@ -24,8 +24,7 @@ use Rattle.model.specs.Frames.{Valid}
 use Rattle.model.specs.Table.{Slice, MemoryFacts}
 use Rattle.model.proofs.FactLaws.{row1-tells, check-facts}
 use Rattle.access.specs.Contract.{Nodes, Looks}
-use Rattle.rows.specs.declared.Fields.{Fields}
-use Rattle.rows.specs.Contract.{recordOf, stateOf, unlessRefused, Answers, AnswersOn, argumentRows, clearedWhere}
+use Rattle.rows.specs.Contract.{stateOf, unlessRefused, Answers, AnswersOn, argumentRows, clearedWhere}
 
 unless-turned : (k : ℕ) (s : State) (x : Result) (g : Given) → (k ≡ 0 → ⊥) → turnedDownBy k s x ≡ record { answer = unlessRefused k g; after = s }
 unless-turned zero s x g n = absurd (n refl)
@@ -109,12 +108,12 @@ not-full {w} {m} u f S = subst (λ (b : Bool). Sound w m (record { count = u .co
 pub over-sound : {w w′ m : List ℕ} (c : ℕ) (u : Store) {t : Bool} → (w′, t) ≡ clearedWhere w c (u .full) → t ≡ false → Sound w m u → Sound w′ m (record { count = u .count; full = false })
 over-sound {w} {w′} {m} c u o e S = let g = left-by w c (u .full) o e in subst (λ (l : List ℕ). Sound l m (record { count = u .count; full = false })) (sym (g .0)) (not-full u (g .1) S)
 
-pub in-range-few : (r : model.Record) (w : List ℕ) → row1 r w ≡ true → (r .n ≤ 8) × (r .w ≤ 16)
+pub in-range-few : (r : model.Record) (w : List ℕ) → row1 r w ≡ true → (r .sizes .n ≤ 8) × (r .sizes .w ≤ 16)
 in-range-few r w e = let R = row1-tells r w .is e in (R .n-most, R .w-most)
 
 -- a valid memory
 module _ (s : State) (K : Valid s) where
-  pub valid-few : (s .rec .n ≤ 8) × (s .rec .w ≤ 16)
+  pub valid-few : (s .rec .sizes .n ≤ 8) × (s .rec .sizes .w ≤ 16)
   valid-few = in-range-few (s .rec) (s .words) (K .one)
 
   pub valid-standard : Standard (s .words) (s .rec .count)
@@ -167,10 +166,6 @@ lengths-turned c s t ts is K e = turned c s (sym (is ∙ valid-rows s K ((4, t) 
     first : firstRow ((4, t) ∷ ts) ≡ 4
     first = rw e
 
--- row 8's test by the count and the capacity
-pub space-is : (a b : ℕ) → ltb a b ≡ leb (a + 1) b
-space-is a b = split (ltb a b) (λ t. rw (t, le-leb (a + 1) b (omega (arith, ltb-true a b t)))) (λ t. rw (t, lt-leb (a + 1) b (omega (arith, ltb-false a b t))))
-
 -- a row whose test holds
 pub row-passes : {t : Bool} (k : ℕ) (ts : List Row) → t ≡ true → firstRow ((k, t) ∷ ts) ≡ firstRow ts
 row-passes k ts e = rw e
@@ -196,22 +191,22 @@ pub no-pairs : (r : model.Record) (w ws : List ℕ) → legalPairs r w ws 0 ≡ 
 no-pairs r w ws = every-end _ 0 0 (omega arith)
 
 -- of a valid memory a check has the rows of its arguments, b being one word of control and no pair
-pub check-row-is : (s : State) → Valid s → (b : ℕ) (a d : List ℕ) → length a ≡ 2 * s .rec .n → length d ≡ 2 * s .rec .w
-    → firstRow (checkRows (s .rec) (s .words) (s .list) b a d) ≡ firstRow (argumentRows (s .rec) (s .words) (b ∷ []) 0 a d (s .rec .w))
+pub check-row-is : (s : State) → Valid s → (b : ℕ) (a d : List ℕ) → length a ≡ model.addressWords (s .rec) → length d ≡ model.cellWords (s .rec)
+    → firstRow (checkRows (s .rec) (s .words) (s .list) b a d) ≡ firstRow (argumentRows (s .rec) (s .words) (b ∷ []) 0 a d (s .rec .sizes .w))
 check-row-is s K b a d la ld =
     let r = s .rec in
     let w = s .words in
     let ts = checkRows r w (s .list) b a d in
     valid-rows s K (drop 3 ts)
-    ∙ row-passes 4 (drop 4 ts) (both-and (eq-eqb (length a) (2 * r .n) la) (eq-eqb (length d) (2 * r .w) ld))
-    ∙ same-rows (ap (λ (x : Bool). x && users r w a && users r w d) (sym (users-one r w b))) (ap (λ (x : Bool). x && legalPairs r w a (r .n) && legalPairs r w d (r .w)) (sym (no-pairs r w (b ∷ []))))
+    ∙ row-passes 4 (drop 4 ts) (both-and (eq-eqb (length a) (model.addressWords r) la) (eq-eqb (length d) (model.cellWords r) ld))
+    ∙ same-rows (ap (λ (x : Bool). x && users r w a && users r w d) (sym (users-one r w b))) (ap (λ (x : Bool). x && legalPairs r w a (r .sizes .n) && legalPairs r w d (r .sizes .w)) (sym (no-pairs r w (b ∷ []))))
 
 -- the words of a slice are nodes
 pub slice-nodes : {s : State} {ws : List ℕ} {k : ℕ} → Slice s ws k → Nodes (s .rec .count) ws
 slice-nodes F = record { at = λ i h. F .names i (omega (arith, F .long)) .below }
 
 -- a look at a list that row 3 accepts
-pub facts-look : (r : Fields) (w l a : List ℕ) → MemoryFacts (stateOf r w l) → Slice (stateOf r w l) a (r .n) → Looks (r .n) (r .w) (r .entries) (r .count) l a
+pub facts-look : (r : model.Record) (w l a : List ℕ) → MemoryFacts (stateOf r w l) → Slice (stateOf r w l) a (r .sizes .n) → Looks (r .sizes) (r .entries) (r .count) l a
 facts-look r w l a M F =
     record {
       few = M .range .n-most;
@@ -224,13 +219,13 @@ facts-look r w l a M F =
     }
 
 -- what the rows of a check leave, which are an assert's up to 6
-pub record Compared (r : Fields) (l : List ℕ) (b : ℕ) (a d : List ℕ) : Type 0 where
-  pub wide : r .w ≤ 16
-  pub looks : Looks (r .n) (r .w) (r .entries) (r .count) l a
+pub record Compared (r : model.Record) (l : List ℕ) (b : ℕ) (a d : List ℕ) : Type 0 where
+  pub wide : r .sizes .w ≤ 16
+  pub looks : Looks (r .sizes) (r .entries) (r .count) l a
   pub word : Nodes (r .count) d
   pub control : b < r .count
 
-pub compared : (r : Fields) (w l : List ℕ) (b : ℕ) (a d : List ℕ) {k : ℕ} → k ≡ firstRow (checkRows (recordOf r) w l b a d) → k ≡ 0 → Compared r l b a d
+pub compared : (r : model.Record) (w l : List ℕ) (b : ℕ) (a d : List ℕ) {k : ℕ} → k ≡ firstRow (checkRows r w l b a d) → k ≡ 0 → Compared r l b a d
 compared r w l b a d e z =
     let F = check-facts (stateOf r w l) b a d (sym e ∙ z) in
     record { wide = F .memory .range .w-most; looks = facts-look r w l a (F .memory) (F .address); word = slice-nodes (F .word); control = F .control .below }

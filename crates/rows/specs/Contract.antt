@@ -12,20 +12,16 @@ use Rattle.model.specs.Rows.{Row, users, legalPairs}
 use Rattle.model.specs.Step.{State, Access, NodeCall, Given, Answer, refused, done, isRefused, begin}
 use Rattle.model.specs.Chain.{AnswersNode}
 pub use Rattle.model.specs.Chain.{Answers}
-use Rattle.rows.specs.declared.Fields.{Fields}
 use Rattle.rows.specs.declared.slices.Fault.{Fault}
 use Rattle.rows.specs.declared.slices.Fault.the-variants as faults
 
 -- the record, node words and list of a call that is lent no ports: none are seen
-abbrev pub recordOf : Fields → model.Record
-recordOf r = record { n = r .n; w = r .w; count = r .count; entries = r .entries; asserted = r .asserted; checked = r .checked }
-
-abbrev pub stateOf : Fields → List ℕ → List ℕ → State
-stateOf r w l = record { rec = recordOf r; words = w; list = l; ports = [] }
+abbrev pub stateOf : model.Record → List ℕ → List ℕ → State
+stateOf r w l = record { rec = r; words = w; list = l; ports = [] }
 
 -- and of one that is lent ports
-abbrev pub portedOf : Fields → List ℕ → List ℕ → List ℕ → State
-portedOf r w l ps = record { rec = recordOf r; words = w; list = l; ports = ps }
+abbrev pub portedOf : model.Record → List ℕ → List ℕ → List ℕ → State
+portedOf r w l ps = record { rec = r; words = w; list = l; ports = ps }
 
 -- the answer of a call that is refused by a number, or by none where that is 0: then it gives this
 abbrev pub unlessRefused : ℕ → Given → Answer
@@ -34,7 +30,7 @@ unlessRefused (suc k) g = refused (suc k)
 
 -- a call that is lent no list: whatever the list is, it stays
 abbrev pub AnswersAnyList : NodeCall → model.Record → List ℕ → model.Record → List ℕ → Answer → Type 0
-AnswersAnyList c r w r′ w′ a = (l : List ℕ) → AnswersNode c (record { rec = r; words = w; list = l; ports = [] }) (record { rec = r′; words = w′; list = l; ports = [] }) a
+AnswersAnyList c r w r′ w′ a = (l : List ℕ) → AnswersNode c (stateOf r w l) (stateOf r′ w′ l) a
 
 -- where an access is accepted, the computed table is right for the next
 abbrev pub Next : State → Answer → List ℕ → Type 0
@@ -51,7 +47,7 @@ clearedWhere w c refuses = (cond refuses (clearOf w c) w, refuses)
 
 -- rows 5 and 6 of an access: of words of control with k pairs, of an address, and of data with m pairs
 abbrev pub argumentRows : model.Record → List ℕ → List ℕ → ℕ → List ℕ → List ℕ → ℕ → List Row
-argumentRows r w c k a d m = (5, users r w c && users r w a && users r w d) ∷ (6, legalPairs r w c k && legalPairs r w a (r .n) && legalPairs r w d m) ∷ []
+argumentRows r w c k a d m = (5, users r w c && users r w a && users r w d) ∷ (6, legalPairs r w c k && legalPairs r w a (r .sizes .n) && legalPairs r w d m) ∷ []
 
 -- the first k words of a slice are nodes
 pub record FirstNodes (c k : ℕ) (ws : List ℕ) : Type 0 where
@@ -68,9 +64,9 @@ FaultNames c faults.Neither = Unit {0}
 FaultNames c (faults.Unknown b) = b .0 < c
 
 -- a list with space for one entry more, and the entry's address and data
-pub record EntryFits (r : Fields) (l a d : List ℕ) : Type 0 where
-  pub few : r .n ≤ 8
-  pub wide : r .w ≤ 16
-  pub space : r .entries < model.listCapacity (recordOf r) l
-  pub pairs : length a ≡ 2 * r .n
-  pub word : length d ≡ 2 * r .w
+pub record EntryFits (r : model.Record) (l a d : List ℕ) : Type 0 where
+  pub few : r .sizes .n ≤ 8
+  pub wide : r .sizes .w ≤ 16
+  pub space : r .entries < model.listCapacity r l
+  pub pairs : length a ≡ model.addressWords r
+  pub word : length d ≡ model.cellWords r

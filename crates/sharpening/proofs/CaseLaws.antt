@@ -50,13 +50,13 @@ file-accesses file n w at (suc m) t =
 
 pub case-sharpening : CaseSharpening
 unfolding CaseSharpening Sharpening CaseText
-case-sharpening file words list text file′ words′ list′ text′ k k′ r r′ e e′ en ew a small M =
+case-sharpening file words list text file′ words′ list′ text′ k k′ r r′ e e′ es a small M =
     let φ = bitAt a in
     let P = case-text file words list text k r e in
     let P′ = case-text file′ words′ list′ text′ k′ r′ e′ in
     let s = stateIn file words list in
     let t = stateIn file′ words′ list′ in
-    let A = sharpening s t (case-begins file words list text k r e) (case-begins file′ words′ list′ text′ k′ r′ e′) en ew (callsIn file) (callsIn file′) a small M in
+    let A = sharpening s t (case-begins file words list text k r e) (case-begins file′ words′ list′ text′ k′ r′ e′) es (callsIn file) (callsIn file′) a small M in
     let q = file-accesses file (getD file 0 0) (getD file 1 0) (firstAt file) (accessesIn file) (P .stand) in
     let q′ = file-accesses file′ (getD file′ 0 0) (getD file′ 1 0) (firstAt file′) (accessesIn file′) (P′ .stand) in
     record {
@@ -69,6 +69,6 @@ case-sharpening file words list text file′ words′ list′ text′ k k′ r r
 pub case-replacing : CaseReplacing
 unfolding CaseReplacing CaseSharpening CaseText
 case-replacing file words list text file′ words′ list′ text′ k k′ r r′ e e′ er ew C a small =
-    case-sharpening file words list text file′ words′ list′ text′ k k′ r r′ e e′ (ap (λ (x : Record). x .n) er) (ap (λ (x : Record). x .w) er) a small
+    case-sharpening file words list text file′ words′ list′ text′ k k′ r r′ e e′ (ap (λ (x : Record). x .sizes) er) a small
     (replaced-sharper (bitAt a) (stateIn file words list) (stateIn file′ words′ list′) er ew (callsIn file) (callsIn file′) C
     (case-text file words list text k r e .accepted) (case-text file′ words′ list′ text′ k′ r′ e′ .accepted))

@@ -1,6 +1,3 @@
-pub mod PairLaws
-pub mod PublishedLaws
-pub mod RunLaws
 pub mod CallLaws
 pub mod NumberLaws
 pub mod ReplacedLaws

@@ -5,10 +5,11 @@ use mathlib.Core.List.{List, [], _∷_}
 use Prim.Native.Nat.{ℕ, zero, suc, _<_, zero-le, suc-le-suc}
 use native.Mathlib.Nat.{le-of-suc-le-suc, not-suc-le-zero}
 use lib.ListN.{length}
-use Rattle.model.specs.Step.{State, write, read, assert, check, Call, access, nodeCall, Answer, refused, done, isRefused, step, AllAccepted}
-use Rattle.model.specs.Array.{Event, writes, reads, asserts, checks, nothing}
+use Rattle.model.specs.Step.{State, write, read, assert, check, Call, access, nodeCall, upkeep, Answer, refused, done, isRefused, step, AllAccepted}
+use Rattle.semantics.specs.declared.Sizes.{Sizes}
+use Rattle.semantics.specs.Array.{Event, writes, reads, asserts, checks, nothing}
 use Rattle.model.specs.Claims.{event, events, May}
-use Rattle.sharpening.specs.Sharper.{SharperList, end, both, first, second, Matched}
+use Rattle.sharper.specs.Sharper.{SharperList, end, both, first, second, Matched}
 use Rattle.sharpening.specs.Claims.{AnswersNarrower, SameNumber}
 
 -- each event is an accepted access
@@ -45,6 +46,7 @@ may-there φ s (c ∷ cs) (suc j) i b z = suc-le-suc (may-there φ (step c s .af
 abbrev pub IsAccess : Call → Type 0
 IsAccess (access c) = Unit {0}
 IsAccess (nodeCall c) = ⊥
+IsAccess (upkeep c) = ⊥
 
 abbrev pub AllAccesses : List Call → Type 0
 AllAccesses [] = Unit {0}
@@ -57,6 +59,7 @@ event-access φ s (access (read p e a out)) (done g) A f es q = q
 event-access φ s (access (assert b a d)) (done g) A f es q = q
 event-access φ s (access (check b a d)) (done g) A f es q = q
 event-access φ s (nodeCall c) (done g) A f es q = absurd A
+event-access φ s (upkeep c) (done g) A f es q = absurd A
 
 fed-accesses : (φ : ℕ → Bool) (s : State) (cs : List Call) → AllAccesses cs → AllAccepted cs s → Accesses (events φ s cs)
 fed-accesses φ s [] A q = tt
@@ -65,12 +68,12 @@ fed-accesses φ s (c ∷ cs) A q =
     event-access φ s c (x .answer) (A .0) (q .0) (events φ (x .after) cs) (fed-accesses φ (x .after) cs (A .1) (q .1))
 
 -- so what holds of those that are matched holds of those of one number
-pub numbered : (φ : ℕ → Bool) (s t : State) (cs ds : List Call) → AllAccesses cs → AllAccesses ds → AllAccepted cs s → AllAccepted ds t → {w : ℕ} (M : SharperList (events φ s cs) (events φ t ds)) {x y : State}
-    → AnswersNarrower φ w (Matched M) (May φ s cs) (May φ t ds) x y → AnswersNarrower φ w SameNumber (May φ s cs) (May φ t ds) x y
+pub numbered : (φ : ℕ → Bool) (s t : State) (cs ds : List Call) → AllAccesses cs → AllAccesses ds → AllAccepted cs s → AllAccepted ds t → {z : Sizes} (M : SharperList (events φ s cs) (events φ t ds)) {x y : State}
+    → AnswersNarrower φ z (Matched M) (May φ s cs) (May φ t ds) x y → AnswersNarrower φ z SameNumber (May φ s cs) (May φ t ds) x y
 numbered φ s t cs ds A B q q′ M N =
     record {
-      bits = λ j k e i h b z.
-          N .bits j k (subst (λ (l : ℕ). Matched M l k) (sym e) (same-number (events φ s cs) (events φ t ds) M (fed-accesses φ s cs A q) (fed-accesses φ t ds B q′) k (may-there φ t ds k i b z))) i h b z;
+      bits = λ j k e i h b y.
+          N .bits j k (subst (λ (l : ℕ). Matched M l k) (sym e) (same-number (events φ s cs) (events φ t ds) M (fed-accesses φ s cs A q) (fed-accesses φ t ds B q′) k (may-there φ t ds k i b y))) i h b y;
       holds = N .holds;
       checking = N .checking;
     }

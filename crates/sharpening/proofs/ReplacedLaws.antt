@@ -7,35 +7,37 @@ use native.Mathlib.Omega.{arith}
 use Rattle.conditions.specs.Value.{value}
 use Rattle.conditions.specs.Assignment.{bitAt}
 use Rattle.conditions.proofs.Promises.{value-0, value-1}
-use Rattle.model.specs.Pairs.{Pair}
+use Rattle.semantics.specs.declared.Sizes.{Sizes}
+use Rattle.semantics.specs.Sizes.{cellBits, dataBits}
+use Rattle.semantics.specs.Pairs.{Pair}
+use Rattle.semantics.specs.Array.{asserts, checks}
 use Rattle.model.specs.Record.{Record, hAt, lAt}
 use Rattle.model.specs.Step.{State, Access, write, read, assert, check, Call, access, Answer, refused, done, isRefused, step, AllAccepted}
-use Rattle.model.specs.Array.{asserts, checks}
 use Rattle.model.specs.Claims.{pairsFrom, pairs, argument, event, events}
 use Rattle.model.specs.Frames.{SuccessLeaves, Valid}
 use Rattle.model.specs.Table.{Names, AcceptedExactly}
 use Rattle.model.proofs.FrameLaws.{success-leaves}
 use Rattle.model.proofs.TableLaws.{accepted-exactly}
-use Rattle.formula_calls.proofs.StandLaws.{StandsIn, step-stands, memory-valid}
-use Rattle.sharpening.specs.Sharper.{Sharper, alike, settled, AllSharper, SharperAccess, SharperList, end, both}
-use Rattle.sharpening.specs.Sharper as sharper
+use Rattle.model.proofs.StandLaws.{StandsIn, step-stands}
+use Rattle.formula_calls.proofs.StandLaws.{memory-valid}
+use Rattle.sharper.specs.Sharper.{Sharper, alike, settled, AllSharper, SharperAccess, SharperList, end, both}
+use Rattle.sharper.specs.Sharper as sharper
 use Rattle.sharpening.specs.Replaced.{ReplacedPair, same, by1, by0, Replaced, Named, ReplacedAccess, of-write, of-read, of-assert, of-check, ReplacedCalls, then}
 use Rattle.sharpening.specs.Replaced as replaced
 use Rattle.sharpening.specs.Claims.{Replacing, Sharpening}
 use Rattle.sharpening.proofs.NumberLaws.{AllAccesses, numbered}
 use Rattle.sharpening.proofs.CallLaws.{sharpening}
 
--- a state that calls led to from s: n and w are as there, and what stood there means what it meant
+-- a state that calls led to from s: its sizes are those, and what stood there means what it meant
 record Keeps (s t : State) : Type 0 where
-  n : t .rec .n ≡ s .rec .n
-  w : t .rec .w ≡ s .rec .w
+  sizes : t .rec .sizes ≡ s .rec .sizes
   means : (k : ℕ) → Names (s .rec) (s .words) k → StandsIn (λ φ. value (s .words) φ k) k t
 
 keeps-value : {s t : State} → Keeps s t → (φ : ℕ → Bool) (k : ℕ) → Names (s .rec) (s .words) k → value (t .words) φ k ≡ value (s .words) φ k
 keeps-value K φ k N = K .means k N .is refl φ
 
 keeps-first : (s t : State) → t .rec ≡ s .rec → t .words ≡ s .words → Keeps s t
-keeps-first s t er ew = record { n = ap (λ (r : Record). r .n) er; w = ap (λ (r : Record). r .w) er; means = λ k N. go (t .rec) (t .words) er ew k N }
+keeps-first s t er ew = record { sizes = ap (λ (r : Record). r .sizes) er; means = λ k N. go (t .rec) (t .words) er ew k N }
   where
     go : (r : Record) (w : List ℕ) → r ≡ s .rec → w ≡ s .words → (k : ℕ) → Names (s .rec) (s .words) k → StandsIn (λ φ. value (s .words) φ k) k (record { rec = r; words = w; list = t .list; ports = t .ports })
     go r w er ew k N = rw (er, ew) N
@@ -51,8 +53,12 @@ access-valid (check b a d) t f = let A = accepted-exactly (access (check b a d))
 keeps-step : {s : State} (t : State) (c : Access) → isRefused (step (access c) t .answer) ≡ false → Keeps s t → Keeps s (step (access c) t .after)
 unfolding SuccessLeaves
 keeps-step {s} t c f K =
-    let E = success-leaves (access c) t f in
-    record { n = E .n ∙ K .n; w = E .w ∙ K .w; means = λ k N. step-stands (λ φ. value (s .words) φ k) k (access c) t (access-valid c t f) (K .means k N) }
+    let E = success-leaves (access c) t refl f in
+    record { sizes = E .same .sizes ∙ K .sizes; means = λ k N. step-stands (λ φ. value (s .words) φ k) k (access c) t refl (access-valid c t f) (K .means k N) }
+
+-- n
+abbrev addressBits : Sizes → ℕ
+addressBits z = z .n
 
 module _ (φ : ℕ → Bool) {s t u : State} (K : Keeps s t) (L : Keeps s u) where
   -- a node that is named in both
@@ -68,9 +74,10 @@ module _ (φ : ℕ → Bool) {s t u : State} (K : Keeps s t) (L : Keeps s u) whe
   pairs-sharper ws vs i zero f = tt
   pairs-sharper ws vs i (suc k) f = (pair-sharper (f i (omega arith)), pairs-sharper ws vs (suc i) k (λ j h. f j (omega arith)))
 
-  -- so many pairs in both, be it n or w
-  words-sharper : (k m m′ : ℕ) → m ≡ k → m′ ≡ k → (ws vs : List ℕ) → Replaced s k ws vs → AllSharper (pairs φ (t .words) ws m) (pairs φ (u .words) vs m′)
-  words-sharper k m m′ e e′ ws vs f = subst₂ (λ (x y : ℕ). AllSharper (pairs φ (t .words) ws x) (pairs φ (u .words) vs y)) (sym e) (sym e′) (pairs-sharper ws vs 0 k (λ j h. f j (omega arith)))
+  -- so many pairs in both, by the sizes
+  words-sharper : (k : Sizes → ℕ) (ws vs : List ℕ) → Replaced s (k (s .rec .sizes)) ws vs → AllSharper (pairs φ (t .words) ws (k (t .rec .sizes))) (pairs φ (u .words) vs (k (u .rec .sizes)))
+  words-sharper k ws vs f =
+      subst₂ (λ (x y : Sizes). AllSharper (pairs φ (t .words) ws (k x)) (pairs φ (u .words) vs (k y))) (sym (K .sizes)) (sym (L .sizes)) (pairs-sharper ws vs 0 (k (s .rec .sizes)) (λ j h. f j (omega arith)))
 
   -- words that are the same
   pairs-same : (ws : List ℕ) (i k : ℕ) → ((j : ℕ) → j < i + k → Names (s .rec) (s .words) (hAt ws j) × Names (s .rec) (s .words) (lAt ws j)) → pairsFrom φ (u .words) ws i k ≡ pairsFrom φ (t .words) ws i k
@@ -82,19 +89,19 @@ module _ (φ : ℕ → Bool) {s t u : State} (K : Keeps s t) (L : Keeps s u) whe
       let rest = pairs-same ws (suc i) k (λ j h. f j (omega arith)) in
       λ x. record { h = hs x; l = ls x } ∷ rest x
 
-  words-same : (k m m′ : ℕ) → m ≡ k → m′ ≡ k → (ws : List ℕ) → Named s k ws → pairs φ (u .words) ws m′ ≡ pairs φ (t .words) ws m
-  words-same k m m′ e e′ ws f = subst₂ (λ (x y : ℕ). pairs φ (u .words) ws y ≡ pairs φ (t .words) ws x) (sym e) (sym e′) (pairs-same ws 0 k (λ j h. f j (omega arith)))
+  words-same : (k : Sizes → ℕ) (ws : List ℕ) → Named s (k (s .rec .sizes)) ws → pairs φ (u .words) ws (k (u .rec .sizes)) ≡ pairs φ (t .words) ws (k (t .rec .sizes))
+  words-same k ws f =
+      subst₂ (λ (x y : Sizes). pairs φ (u .words) ws (k y) ≡ pairs φ (t .words) ws (k x)) (sym (K .sizes)) (sym (L .sizes)) (pairs-same ws 0 (k (s .rec .sizes)) (λ j h. f j (omega arith)))
 
   argument-sharper : (c d : Access) → ReplacedAccess s c d → SharperAccess (argument φ t c) (argument φ u d)
-  argument-sharper (write c a d) (write c′ a′ d′) (of-write fc fa fd) =
-      sharper.write (pair-sharper (fc 0 (omega arith))) (words-sharper (s .rec .n) (t .rec .n) (u .rec .n) (K .n) (L .n) a a′ fa) (words-sharper (s .rec .w) (t .rec .w) (u .rec .w) (K .w) (L .w) d d′ fd)
-  argument-sharper (read p e a out) (read p′ e′ a′ out′) (of-read fe fa) = sharper.read (pair-sharper (fe 0 (omega arith))) (words-sharper (s .rec .n) (t .rec .n) (u .rec .n) (K .n) (L .n) a a′ fa)
+  argument-sharper (write c a d) (write c′ a′ d′) (of-write fc fa fd) = sharper.write (pair-sharper (fc 0 (omega arith))) (words-sharper addressBits a a′ fa) (words-sharper dataBits d d′ fd)
+  argument-sharper (read p e a out) (read p′ e′ a′ out′) (of-read fe fa) = sharper.read (pair-sharper (fe 0 (omega arith))) (words-sharper addressBits a a′ fa)
   argument-sharper (assert b a d) (assert b′ a′ d′) (of-assert N fa fd) =
-      subst (λ (x : Bool). SharperAccess (argument φ t (assert b a d)) (asserts x (pairs φ (u .words) a′ (u .rec .n)) (pairs φ (u .words) d′ (u .rec .w)))) (sym (named-same b N))
-      (sharper.assert (words-sharper (s .rec .n) (t .rec .n) (u .rec .n) (K .n) (L .n) a a′ fa) (words-sharper (s .rec .w) (t .rec .w) (u .rec .w) (K .w) (L .w) d d′ fd))
+      subst (λ (x : Bool). SharperAccess (argument φ t (assert b a d)) (asserts x (pairs φ (u .words) a′ (addressBits (u .rec .sizes))) (pairs φ (u .words) d′ (cellBits (u .rec .sizes))))) (sym (named-same b N))
+      (sharper.assert (words-sharper addressBits a a′ fa) (words-sharper cellBits d d′ fd))
   argument-sharper (check b a d) (check b′ a′ d′) (of-check N fa nd) =
-      subst₂ (λ (x : Bool) (y : List Pair). SharperAccess (argument φ t (check b a d)) (checks x (pairs φ (u .words) a′ (u .rec .n)) y)) (sym (named-same b N)) (sym (words-same (s .rec .w) (t .rec .w) (u .rec .w) (K .w) (L .w) d nd))
-      (sharper.check (words-sharper (s .rec .n) (t .rec .n) (u .rec .n) (K .n) (L .n) a a′ fa))
+      subst₂ (λ (x : Bool) (y : List Pair). SharperAccess (argument φ t (check b a d)) (checks x (pairs φ (u .words) a′ (addressBits (u .rec .sizes))) y)) (sym (named-same b N)) (sym (words-same cellBits d nd))
+      (sharper.check (words-sharper addressBits a a′ fa))
 
 -- the event of an accepted access
 accepted-event : (φ : ℕ → Bool) (t : State) (c : Access) (x : Answer) → isRefused x ≡ false → event φ t (access c) x ≡ argument φ t c
@@ -126,4 +133,4 @@ unfolding Replacing Sharpening
 replacing s t B C er ew cs ds R A A′ a small =
     let M = replaced-sharper (bitAt a) s t er ew cs ds R A A′ in
     let q = replaced-accesses cs ds R in
-    numbered (bitAt a) s t cs ds (q .0) (q .1) A A′ M (sharpening s t B C (ap (λ (r : Record). r .n) er) (ap (λ (r : Record). r .w) er) cs ds a small M)
+    numbered (bitAt a) s t cs ds (q .0) (q .1) A A′ M (sharpening s t B C (ap (λ (r : Record). r .sizes) er) cs ds a small M)

@@ -7,20 +7,21 @@ use lib.Dec.{T}
 use lib.ListN.{replicate}
 use Rattle.conditions.specs.Value.{value}
 use Rattle.conditions.specs.Assignment.{bitAt}
+use Rattle.semantics.specs.Array.{Event}
+use Rattle.semantics.specs.Rulings.{small}
 use Rattle.model.specs.Step.{State, write, read, assert, check, variable, Call, access, nodeCall, place, idle, entered, kept, refused, done, step, run, freshRecord, fresh, AllAccepted}
-use Rattle.model.specs.Array.{Event}
 use Rattle.model.specs.Claims.{events, May, CheckHolds}
 use Rattle.model.specs.Rulings.{one, nought, unknown, _at_, lent}
 use Rattle.model.specs.Chain.{eventsOf, MayBe}
 use Rattle.formula_calls.specs.Call.{asserting, formulaStep}
 use Rattle.formula_calls.specs.Chain.{AnyLink, call, formula, afterLink, AllChained, spelledOut}
+use Rattle.sharper.specs.Sharper.{SharperList, Matched}
 use Rattle.sharpening.specs.Replaced.{ReplacedCalls}
-use Rattle.sharpening.specs.Sharper.{SharperList, Matched}
 
 -- a fresh memory, lent so many list words; an entry is of six
 abbrev pub lentList : ℕ → State
 lentList k =
-    let x = fresh (freshRecord 1 1) 1 1 (replicate 30 0) [] in
+    let x = fresh (freshRecord small) small (replicate 30 0) [] in
     record { rec = x .rec; words = x .words; list = replicate k 0; ports = x .ports }
 
 abbrev pub begun : State

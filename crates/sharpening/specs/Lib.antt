@@ -1,4 +1,3 @@
-pub mod Sharper
 pub mod Replaced
 pub mod Claims
 pub mod Examples

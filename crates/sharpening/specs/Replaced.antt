@@ -1,6 +1,7 @@
 -- 02, 'Sharpening an input': "Engineers replace an X by 0 or 1". Two lists of accesses, by the words that they are lent.
 use mathlib.Core.List.{List, [], _∷_}
 use Prim.Native.Nat.{ℕ, _<_}
+use Rattle.semantics.specs.Sizes.{cellBits, dataBits}
 use Rattle.model.specs.Record.{hAt, lAt}
 use Rattle.model.specs.Step.{State, Access, write, read, assert, check, Call, access}
 use Rattle.model.specs.Table.{Names}
@@ -20,10 +21,10 @@ Named s k ws = (i : ℕ) → i < k → Names (s .rec) (s .words) (hAt ws i) × N
 
 -- an access: "the same ports, b and check data". The answer words that reads are lent may differ
 pub data ReplacedAccess (s : State) : Access → Access → Type 0 where
-  of-write : {c c′ a a′ d d′ : List ℕ} → Replaced s 1 c c′ → Replaced s (s .rec .n) a a′ → Replaced s (s .rec .w) d d′ → ReplacedAccess s (write c a d) (write c′ a′ d′)
-  of-read : {p : ℕ} {e e′ a a′ out out′ : List ℕ} → Replaced s 1 e e′ → Replaced s (s .rec .n) a a′ → ReplacedAccess s (read p e a out) (read p e′ a′ out′)
-  of-assert : {b : ℕ} {a a′ d d′ : List ℕ} → Names (s .rec) (s .words) b → Replaced s (s .rec .n) a a′ → Replaced s (s .rec .w) d d′ → ReplacedAccess s (assert b a d) (assert b a′ d′)
-  of-check : {b : ℕ} {a a′ d : List ℕ} → Names (s .rec) (s .words) b → Replaced s (s .rec .n) a a′ → Named s (s .rec .w) d → ReplacedAccess s (check b a d) (check b a′ d)
+  of-write : {c c′ a a′ d d′ : List ℕ} → Replaced s 1 c c′ → Replaced s (s .rec .sizes .n) a a′ → Replaced s (dataBits (s .rec .sizes)) d d′ → ReplacedAccess s (write c a d) (write c′ a′ d′)
+  of-read : {p : ℕ} {e e′ a a′ out out′ : List ℕ} → Replaced s 1 e e′ → Replaced s (s .rec .sizes .n) a a′ → ReplacedAccess s (read p e a out) (read p e′ a′ out′)
+  of-assert : {b : ℕ} {a a′ d d′ : List ℕ} → Names (s .rec) (s .words) b → Replaced s (s .rec .sizes .n) a a′ → Replaced s (cellBits (s .rec .sizes)) d d′ → ReplacedAccess s (assert b a d) (assert b a′ d′)
+  of-check : {b : ℕ} {a a′ d : List ℕ} → Names (s .rec) (s .words) b → Replaced s (s .rec .sizes .n) a a′ → Named s (cellBits (s .rec .sizes)) d → ReplacedAccess s (check b a d) (check b a′ d)
 
 -- one after the other
 pub data ReplacedCalls (s : State) : List Call → List Call → Type 0 where

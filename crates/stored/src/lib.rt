@@ -116,7 +116,10 @@ pub fn word(x: u32) {
     wide(x as u64);
 }
 
-pub fn record(r: &[u32; 6]) {
+// The words of a record.
+pub type RecordWords = [u32; 6];
+
+pub fn record(r: &RecordWords) {
     word(r[0]);
     word(r[1]);
     word(r[2]);

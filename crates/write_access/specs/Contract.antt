@@ -3,7 +3,7 @@ use mathlib.Core.Bool.{Bool, cond, _&&_}
 use Prim.Native.Nat.{ℕ}
 use lib.Dec.{eqb}
 use Rattle.model.specs.Step.{Answer, place, idle}
-use Rattle.rows.specs.declared.Fields.{Fields}
+use Rattle.model.specs.declared.Fields.{Fields}
 use Rattle.rows.specs.Contract.{unlessRefused}
 use Rattle.write_access.specs.declared.WriteDone.{WriteDone}
 

@@ -5,15 +5,16 @@ ghost use Prim.Native.Nat.{_*_, _≤_};
 ghost use lib.ListN.{length};
 ghost use Rattle.conditions.specs.Stores.{Standard};
 ghost use Rattle.conditions.specs.Contract.{Sound};
+ghost use Rattle.model.specs.Record.{addressWords, dataWords};
 ghost use Rattle.model.specs.Rows.{firstRow, writeRows};
 ghost use Rattle.model.specs.Step.{begin, write, isIdle};
 ghost use Rattle.model.specs.Frames.{Valid};
-ghost use Rattle.rows.specs.Contract.{recordOf, stateOf, argumentRows, Answers, AnswersOn};
+ghost use Rattle.rows.specs.Contract.{stateOf, argumentRows, Answers, AnswersOn};
 ghost use Rattle.write_access.specs.Contract.{writeAnswer, testedAs};
 use access::ControlNode;
 use access::ControlPair;
 use conditions::Table;
-use rows::Fields;
+use model::Fields;
 
 // The fields after a write, the number by which it is refused, or 0, and whether it is idle, where it is not refused.
 pub struct WriteDone {
@@ -24,10 +25,10 @@ pub struct WriteDone {
 
 // A write to a valid memory by rows 5 and 6: refused, or idle, or still to be entered.
 fn tested(r: Fields, words: &[u32], enable: &[u32], address: &[u32], data: &[u32]) -> WriteDone
-    requires { ⌜ Standard (now words) (r .count) × (r .n ≤ 8) × (r .w ≤ 16) × (length (now enable) ≡ 2) × (length (now address) ≡ 2 * r .n) × (length (now «data») ≡ 2 * r .w) ⌝ }
-    ensures { λ x. ⌜ x ≡ testedAs r (firstRow (argumentRows (recordOf r) (now (words .entry)) (now (enable .entry)) 1 (now (address .entry)) (now («data» .entry)) (r .w))) (isIdle (now (enable .entry))) ⌝ }
+    requires { ⌜ Standard (now words) (r .count) × (r .sizes .n ≤ 8) × (r .sizes .w ≤ 16) × (length (now enable) ≡ 2) × (length (now address) ≡ addressWords r) × (length (now «data») ≡ dataWords r) ⌝ }
+    ensures { λ x. ⌜ x ≡ testedAs r (firstRow (argumentRows r (now (words .entry)) (now (enable .entry)) 1 (now (address .entry)) (now («data» .entry)) (r .sizes .w))) (isIdle (now (enable .entry))) ⌝ }
 {
-    let k = r.argument_row(words, enable, 1, address, data, r.w as usize);
+    let k = rows::argument_row(r, words, enable, 1, address, data, r.sizes.w as usize);
     let h = ControlNode(enable[0]);
     WriteDone {
         after: r,
@@ -46,15 +47,15 @@ fn enter(
     address: &[u32],
     data: &[u32],
 ) -> WriteDone
-    requires { ⌜ Sound (now words) (now table) (begin (recordOf r)) × (firstRow (writeRows (recordOf r) (now words) (now list) (now enable) (now address) (now «data»)) ≡ 0) × (isIdle (now enable) ≡ false) ⌝ }
+    requires { ⌜ Sound (now words) (now table) (begin r) × (firstRow (writeRows r (now words) (now list) (now enable) (now address) (now «data»)) ≡ 0) × (isIdle (now enable) ≡ false) ⌝ }
     ensures { λ x. ⌜ AnswersOn (write (now (enable .entry)) (now (address .entry)) (now («data» .entry))) (stateOf r (now (words .entry)) (now (list .entry))) (stateOf (x .after) (now (words .exit)) (now (list .exit))) (writeAnswer (x .row) (x .idle) (r .entries)) (now (table .exit)) ⌝ }
 {
     let c = ControlPair {
         h: ControlNode(enable[0]),
         l: ControlNode(enable[1]),
     };
-    let n = r.n as usize;
-    let m = access::write_marks(words, table, r.begin(), n, c, address);
+    let n = r.sizes.n as usize;
+    let m = access::write_marks(words, table, rows::begin(r), n, c, address);
     if rows::clear_where(words, r.count, m.store.full) {
         return WriteDone {
             after: r,
@@ -62,14 +63,14 @@ fn enter(
             idle: false,
         };
     }
-    if rows::clear_where(words, r.count, !r.has_space(list)) {
+    if rows::clear_where(words, r.count, !rows::has_space(r, list, 1)) {
         return WriteDone {
             after: r,
             row: 8,
             idle: false,
         };
     }
-    r.append_entry(list, m, address, data);
+    rows::append_entry(r, list, m, address, data);
     let mut after = r;
     after.count = m.store.count;
     after.entries = r.entries + 1;
@@ -90,7 +91,7 @@ pub fn write_on(
     address: &[u32],
     data: &[u32],
 ) -> WriteDone
-    requires { ⌜ Valid (stateOf r (now words) (now list)) × Sound (now words) (now table) (begin (recordOf r)) × (length (now enable) ≡ 2) × (length (now address) ≡ 2 * r .n) × (length (now «data») ≡ 2 * r .w) ⌝ }
+    requires { ⌜ Valid (stateOf r (now words) (now list)) × Sound (now words) (now table) (begin r) × (length (now enable) ≡ 2) × (length (now address) ≡ addressWords r) × (length (now «data») ≡ dataWords r) ⌝ }
     ensures { λ x. ⌜ AnswersOn (write (now (enable .entry)) (now (address .entry)) (now («data» .entry))) (stateOf r (now (words .entry)) (now (list .entry))) (stateOf (x .after) (now (words .exit)) (now (list .exit))) (writeAnswer (x .row) (x .idle) (r .entries)) (now (table .exit)) ⌝ }
 {
     let d = tested(r, words, enable, address, data);
@@ -111,7 +112,7 @@ pub fn write(
 ) -> WriteDone
     ensures { λ x. ⌜ Answers (write (now (enable .entry)) (now (address .entry)) (now («data» .entry))) (stateOf r (now (words .entry)) (now (list .entry))) (stateOf (x .after) (now (words .exit)) (now (list .exit))) (writeAnswer (x .row) (x .idle) (r .entries)) ⌝ }
 {
-    let k = r.memory_row(words, list);
+    let k = rows::memory_row(r, words, list);
     if k != 0 {
         return WriteDone {
             after: r,
@@ -119,9 +120,9 @@ pub fn write(
             idle: false,
         };
     }
-    let n = r.n as usize;
-    let w = r.w as usize;
-    if !((enable.len() == 2) & (address.len() == 2 * n) & (data.len() == 2 * w)) {
+    let address_size = ranges::address_words(r.sizes);
+    let data_size = ranges::data_words(r.sizes);
+    if !((enable.len() == 2) & (address.len() == address_size) & (data.len() == data_size)) {
         return WriteDone {
             after: r,
             row: 4,

@@ -18,7 +18,7 @@ hold-requires c κs =
     let p = c .before .before .before .before .before .before .before .before .before .before .before .before .before .before .before .before .before .before .before .before .before .pre in
     let t = c .before .before .before .before .before .before .before .before .before .before .before .before .look .ensures in
     let e = c .before .before .before .before .before .and .ensures in
-    (e .sound, e .node, omega (arith, p .3, t .more, e .more), p .5 ∙ sym (c .before .before .before .before .before .before .before .before .before .before .before .before .look .kept .1 .1 .1 .1 .1 .1 .1 .1 .0 ∙ p .2), more-nodes (omega (arith, t .more, e .more)) (p .6), more-nodes (e .more) (t .nodes))
+    (e .sound, e .node, omega (arith, p .3, t .more, e .more), p .5 ∙ sym (c .before .before .before .before .before .before .before .before .before .before .before .before .look .kept .1 .1 .1 .1 .1 .1 .1 .0 ∙ p .2), more-nodes (omega (arith, t .more, e .more)) (p .6), more-nodes (e .more) (t .nodes))
 
 same-length : tie.Need-same-length
 same-length c = search needs
@@ -33,7 +33,7 @@ returns c =
     let t = c .before .before .before .before .before .before .before .before .before .before .before .before .before .before .before .before .before .look .ensures in
     let e = c .before .before .before .before .before .before .before .before .before .before .and .ensures in
     let u = c .before .before .before .before .hold .ensures in
-    record { is = next-is _ (t .is) (next-is _ (e .is) (rw (c .before .before .before .before .before .before .before .before .before .before .before .before .before .before .before .before .before .look .kept .1 .1 .1 .1 .1 .1 .1 .1 .0 ∙ p .2) at (u .is))); sound = u .sound; more = omega (arith, t .more, e .more, u .more); nodes = u .nodes }
+    record { is = next-is _ (t .is) (next-is _ (e .is) (rw (c .before .before .before .before .before .before .before .before .before .before .before .before .before .before .before .before .before .look .kept .1 .1 .1 .1 .1 .1 .1 .0 ∙ p .2) at (u .is))); sound = u .sound; more = omega (arith, t .more, e .more, u .more); nodes = u .nodes }
 
 pub read-word-spec : {M : Type 1} → statement M
 read-word-spec =

@@ -31,27 +31,24 @@ returns c = turned-on (assert (c .before .before .before .before .before .before
 begin-requires : tie.Need-begin-requires
 begin-requires c κs = search needs
 
-cast-w : tie.Need-cast-w
-cast-w c = search needs
-
-mul-word : tie.Need-mul-word
-mul-word c = search needs
+cell-words-requires : tie.Need-cell-words-requires
+cell-words-requires c κs = search needs
 
 array-borrow-prefix-word : tie.Need-array-borrow-prefix-word
 array-borrow-prefix-word c =
     let H = assert-holds (c .before .before .before .before .before .before .before .before .before .before .before .before .before .args .r) (now (c .before .before .before .before .before .before .before .before .before .before .before .before .before .args .words)) (now (c .before .before .before .before .before .before .before .before .before .before .before .before .before .args .list)) (c .before .before .before .before .before .before .before .before .before .before .before .before .before .args .b .0) (now (c .before .before .before .before .before .before .before .before .before .before .before .before .before .args .address)) (now (c .before .before .before .before .before .before .before .before .before .before .before .before .before .args .«data»)) (c .before .before .before .before .before .before .assert-row .ensures) (c .before .before .before .before .before .if1 .left) in
-    omega (arith, H .wide)
+    omega (arith, H .wide, c .before .before .before .cell-words .ensures)
 
 slice-aggregate-assert-builds : tie.Need-slice-aggregate-assert-builds
 slice-aggregate-assert-builds c =
     let H = assert-holds (c .before .before .before .before .before .before .before .before .before .before .before .before .before .before .args .r) (now (c .before .before .before .before .before .before .before .before .before .before .before .before .before .before .args .words)) (now (c .before .before .before .before .before .before .before .before .before .before .before .before .before .before .args .list)) (c .before .before .before .before .before .before .before .before .before .before .before .before .before .before .args .b .0) (now (c .before .before .before .before .before .before .before .before .before .before .before .before .before .before .args .address)) (now (c .before .before .before .before .before .before .before .before .before .before .before .before .before .before .args .«data»)) (c .before .before .before .before .before .before .before .assert-row .ensures) (c .before .before .before .before .before .before .if1 .left) in
-    simp length-take (omega (arith, H .wide))
+    simp length-take (omega (arith, H .wide, c .before .before .before .before .cell-words .ensures))
 
 assert-builds-requires : tie.Need-assert-builds-requires
 assert-builds-requires c κs =
     let p = c .before .before .before .before .before .before .before .before .before .before .before .before .before .before .pre in
     let H = assert-holds (c .before .before .before .before .before .before .before .before .before .before .before .before .before .before .args .r) (now (c .before .before .before .before .before .before .before .before .before .before .before .before .before .before .args .words)) (now (c .before .before .before .before .before .before .before .before .before .before .before .before .before .before .args .list)) (c .before .before .before .before .before .before .before .before .before .before .before .before .before .before .args .b .0) (now (c .before .before .before .before .before .before .before .before .before .before .before .before .before .before .args .address)) (now (c .before .before .before .before .before .before .before .before .before .before .before .before .before .before .args .«data»)) (c .before .before .before .before .before .before .before .assert-row .ensures) (c .before .before .before .before .before .before .if1 .left) in
-    rw (c .before .before .before .before .before .begin .ensures) (p .1, H .looks, simp length-take (omega (arith, H .wide)), p .3, H .word, H .control, H .asserted)
+    rw (c .before .before .before .before .before .begin .ensures) (p .1, H .looks, simp length-take (omega (arith, H .wide, c .before .before .before .before .cell-words .ensures)), p .3, H .word, H .control, H .asserted)
 
 clear-where-requires : tie.Need-clear-where-requires
 clear-where-requires c κs =
@@ -103,8 +100,7 @@ assert-on-spec =
     same-length-2
     returns
     begin-requires
-    cast-w
-    mul-word
+    cell-words-requires
     array-borrow-prefix-word
     slice-aggregate-assert-builds
     assert-builds-requires

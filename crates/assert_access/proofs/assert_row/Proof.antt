@@ -1,6 +1,6 @@
 use Rattle.assert_access.proofs.AssertLaws.{assert-row-is}
 use Rattle.rows.proofs.CallLaws.{first-refuses, valid-standard, compared}
-use Rattle.rows.specs.Contract.{recordOf, stateOf}
+use Rattle.rows.specs.Contract.{stateOf}
 use Rattle.model.specs.Rows.{checkRows, assertRows}
 use lib.ListN.{drop}
 use denote.Ref.{now}
@@ -14,7 +14,7 @@ check-row-requires : tie.Need-check-row-requires
 check-row-requires c κs = search needs
 
 returns : tie.Need-returns
-returns c = sym (first-refuses (checkRows (recordOf (c .before .before .before .before .before .before .args .r)) (now (c .before .before .before .before .before .before .args .words)) (now (c .before .before .before .before .before .before .args .list)) (c .before .before .before .before .before .before .args .b .0) (now (c .before .before .before .before .before .before .args .address)) (now (c .before .before .before .before .before .before .args .«data»))) (drop 6 (assertRows (recordOf (c .before .before .before .before .before .before .args .r)) (now (c .before .before .before .before .before .before .args .words)) (now (c .before .before .before .before .before .before .args .list)) (c .before .before .before .before .before .before .args .b .0) (now (c .before .before .before .before .before .before .args .address)) (now (c .before .before .before .before .before .before .args .«data»)))) _ (c .before .check-row .ensures) (c .if1 .taken))
+returns c = sym (first-refuses (checkRows (c .before .before .before .before .before .before .args .r) (now (c .before .before .before .before .before .before .args .words)) (now (c .before .before .before .before .before .before .args .list)) (c .before .before .before .before .before .before .args .b .0) (now (c .before .before .before .before .before .before .args .address)) (now (c .before .before .before .before .before .before .args .«data»))) (drop 6 (assertRows (c .before .before .before .before .before .before .args .r) (now (c .before .before .before .before .before .before .args .words)) (now (c .before .before .before .before .before .before .args .list)) (c .before .before .before .before .before .before .args .b .0) (now (c .before .before .before .before .before .before .args .address)) (now (c .before .before .before .before .before .before .args .«data»)))) _ (c .before .check-row .ensures) (c .if1 .taken))
 
 cast-none-unknown : tie.Need-cast-none-unknown
 cast-none-unknown c = search needs

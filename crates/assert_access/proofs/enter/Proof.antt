@@ -1,5 +1,5 @@
 use Rattle.rows.proofs.CallLaws.{nine-acts, done-acts, not-full, over-sound, cleared-by, left-by}
-use Rattle.rows.specs.Contract.{recordOf, stateOf}
+use Rattle.rows.specs.Contract.{stateOf}
 use Rattle.access.proofs.LoopLaws.{more-nodes}
 use Rattle.model.specs.Step.{closed, enter}
 use Rattle.model.specs.Record.{appended}
@@ -75,13 +75,13 @@ append-entry-requires c κs =
     let p = c .before .before .before .before .before .before .before .before .before .before .before .before .before .before .before .before .before .before .before .before .before .before .before .before .before .pre in
     let g = left-by (now (c .before .before .before .before .before .before .before .before .before .before .before .before .before .before .before .before .before .before .before .before .before .before .before .before .before .args .words)) (c .before .before .before .before .before .before .before .before .before .before .before .before .before .before .before .before .before .before .before .before .before .before .before .before .before .args .r .count) (not (c .before .before .before .before .before .before .before .before .before .before .before .before .before .before .before .before .has-space .result)) (c .before .before .before .before .before .before .before .before .before .before .before .before .before .before .before .clear-where .ensures) (c .before .before .before .before .before .before .before .before .before .before .before .before .if2 .left) in
     let u = sym (c .before .before .before .before .before .before .before .before .before .before .before .before .before .before .before .before .has-space .ensures) ∙ not-false (c .before .before .before .before .before .before .before .before .before .before .before .before .before .before .before .before .has-space .result) (g .1) in
-    record { few = p .few; wide = p .wide; space = space-room (recordOf (c .before .before .before .before .before .before .before .before .before .before .before .before .before .before .before .before .before .before .before .before .before .before .before .before .before .args .r)) [] (now (c .before .before .before .before .before .before .before .before .before .before .before .before .before .before .before .before .before .before .before .before .before .before .before .before .before .args .list)) u; pairs = p .pairs; word = p .word }
+    record { few = p .few; wide = p .wide; space = space-room (c .before .before .before .before .before .before .before .before .before .before .before .before .before .before .before .before .before .before .before .before .before .before .before .before .before .args .r) [] (now (c .before .before .before .before .before .before .before .before .before .before .before .before .before .before .before .before .before .before .before .before .before .before .before .before .before .args .list)) u; pairs = p .pairs; word = p .word }
 
 add-after : tie.Need-add-after
 add-after c =
     let g = left-by (now (c .before .before .before .before .before .before .before .before .before .before .before .before .before .before .before .before .before .before .before .before .before .before .before .before .before .before .before .before .before .args .words)) (c .before .before .before .before .before .before .before .before .before .before .before .before .before .before .before .before .before .before .before .before .before .before .before .before .before .before .before .before .before .args .r .count) (not (c .before .before .before .before .before .before .before .before .before .before .before .before .before .before .before .before .before .before .before .before .has-space .result)) (c .before .before .before .before .before .before .before .before .before .before .before .before .before .before .before .before .before .before .before .clear-where .ensures) (c .before .before .before .before .before .before .before .before .before .before .before .before .before .before .before .before .if2 .left) in
     let u = sym (c .before .before .before .before .before .before .before .before .before .before .before .before .before .before .before .before .before .before .before .before .has-space .ensures) ∙ not-false (c .before .before .before .before .before .before .before .before .before .before .before .before .before .before .before .before .before .before .before .before .has-space .result) (g .1) in
-    omega (arith, capacity-most _ _ _ (space-room (recordOf (c .before .before .before .before .before .before .before .before .before .before .before .before .before .before .before .before .before .before .before .before .before .before .before .before .before .before .before .before .before .args .r)) [] (now (c .before .before .before .before .before .before .before .before .before .before .before .before .before .before .before .before .before .before .before .before .before .before .before .before .before .before .before .before .before .args .list)) u))
+    omega (arith, capacity-most _ _ _ (space-room (c .before .before .before .before .before .before .before .before .before .before .before .before .before .before .before .before .before .before .before .before .before .before .before .before .before .before .before .before .before .args .r) [] (now (c .before .before .before .before .before .before .before .before .before .before .before .before .before .before .before .before .before .before .before .before .before .before .before .before .before .before .before .before .before .args .list)) u))
 
 same-length-5 : tie.Need-same-length-5
 same-length-5 c = search needs

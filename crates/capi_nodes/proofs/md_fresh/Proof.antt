@@ -24,13 +24,13 @@ same-length : tie.Need-same-length
 same-length c = search needs
 
 returns : tie.Need-returns
-returns c = fresh-is freshAnswer _ _ (now (c .before .before .before .before .before .before .before .before .before .before .before .before .args .record)) (now (c .before .before .before .before .before .before .before .before .before .before .before .before .args .nodes)) (now (c .before .before .before .before .before .before .before .before .before .before .before .before .args .ports)) (c .enum-told .given .1) (c .before .before .before .before .before .before .before .before .before .record-of .ensures) (c .before .before .before .before .before .before .fresh .ensures) (c .before .before .put-record .ensures)
+returns c = fresh-is freshAnswer _ (now (c .before .before .before .before .before .before .before .before .before .before .before .before .args .record)) (now (c .before .before .before .before .before .before .before .before .before .before .before .before .args .nodes)) (now (c .before .before .before .before .before .before .before .before .before .before .before .before .args .ports)) (c .enum-told .given .1) (c .before .before .before .before .before .before .before .before .before .record-of .ensures) (c .before .before .before .before .before .before .fresh .ensures) (c .before .before .put-record .ensures)
 
 same-length-2 : tie.Need-same-length-2
 same-length-2 c = search needs
 
 returns-2 : tie.Need-returns-2
-returns-2 c = fresh-is freshAnswer _ _ (now (c .before .before .before .before .before .before .before .before .before .before .before .before .before .args .record)) (now (c .before .before .before .before .before .before .before .before .before .before .before .before .before .args .nodes)) (now (c .before .before .before .before .before .before .before .before .before .before .before .before .before .args .ports)) (c .before .answer .given .1) (c .before .before .before .before .before .before .before .before .before .before .record-of .ensures) (c .before .before .before .before .before .before .before .fresh .ensures) (c .before .before .before .put-record .ensures)
+returns-2 c = fresh-is freshAnswer _ (now (c .before .before .before .before .before .before .before .before .before .before .before .before .before .args .record)) (now (c .before .before .before .before .before .before .before .before .before .before .before .before .before .args .nodes)) (now (c .before .before .before .before .before .before .before .before .before .before .before .before .before .args .ports)) (c .before .answer .given .1) (c .before .before .before .before .before .before .before .before .before .before .record-of .ensures) (c .before .before .before .before .before .before .before .fresh .ensures) (c .before .before .before .put-record .ensures)
 
 pub md-fresh-spec : {M : Type 1} → statement M
 md-fresh-spec =

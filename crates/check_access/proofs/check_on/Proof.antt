@@ -23,27 +23,24 @@ returns c = turned-on (check (c .before .before .before .before .before .before 
 begin-requires : tie.Need-begin-requires
 begin-requires c κs = search needs
 
-cast-w : tie.Need-cast-w
-cast-w c = search needs
-
-mul-word : tie.Need-mul-word
-mul-word c = search needs
+cell-words-requires : tie.Need-cell-words-requires
+cell-words-requires c κs = search needs
 
 array-borrow-prefix-word : tie.Need-array-borrow-prefix-word
 array-borrow-prefix-word c =
     let H = check-holds (c .before .before .before .before .before .before .before .before .before .before .before .args .r) (now (c .before .before .before .before .before .before .before .before .before .before .before .args .words)) (now (c .before .before .before .before .before .before .before .before .before .before .before .args .list)) (c .before .before .before .before .before .before .before .before .before .before .before .args .b .0) (now (c .before .before .before .before .before .before .before .before .before .before .before .args .address)) (now (c .before .before .before .before .before .before .before .before .before .before .before .args .«data»)) (c .before .before .before .before .before .check-row .ensures) (c .before .before .before .before .if1 .left) in
-    omega (arith, H .rows .wide)
+    omega (arith, H .rows .wide, c .before .before .cell-words .ensures)
 
 slice-aggregate-check-builds : tie.Need-slice-aggregate-check-builds
 slice-aggregate-check-builds c =
     let H = check-holds (c .before .before .before .before .before .before .before .before .before .before .before .before .args .r) (now (c .before .before .before .before .before .before .before .before .before .before .before .before .args .words)) (now (c .before .before .before .before .before .before .before .before .before .before .before .before .args .list)) (c .before .before .before .before .before .before .before .before .before .before .before .before .args .b .0) (now (c .before .before .before .before .before .before .before .before .before .before .before .before .args .address)) (now (c .before .before .before .before .before .before .before .before .before .before .before .before .args .«data»)) (c .before .before .before .before .before .before .check-row .ensures) (c .before .before .before .before .before .if1 .left) in
-    simp length-take (omega (arith, H .rows .wide))
+    simp length-take (omega (arith, H .rows .wide, c .before .before .before .cell-words .ensures))
 
 check-builds-requires : tie.Need-check-builds-requires
 check-builds-requires c κs =
     let p = c .before .before .before .before .before .before .before .before .before .before .before .before .pre in
     let H = check-holds (c .before .before .before .before .before .before .before .before .before .before .before .before .args .r) (now (c .before .before .before .before .before .before .before .before .before .before .before .before .args .words)) (now (c .before .before .before .before .before .before .before .before .before .before .before .before .args .list)) (c .before .before .before .before .before .before .before .before .before .before .before .before .args .b .0) (now (c .before .before .before .before .before .before .before .before .before .before .before .before .args .address)) (now (c .before .before .before .before .before .before .before .before .before .before .before .before .args .«data»)) (c .before .before .before .before .before .before .check-row .ensures) (c .before .before .before .before .before .if1 .left) in
-    rw (c .before .before .before .before .begin .ensures) (p .1, H .rows .looks, simp length-take (omega (arith, H .rows .wide)), p .3, H .rows .word, H .rows .control, H .checked)
+    rw (c .before .before .before .before .begin .ensures) (p .1, H .rows .looks, simp length-take (omega (arith, H .rows .wide, c .before .before .before .cell-words .ensures)), p .3, H .rows .word, H .rows .control, H .checked)
 
 clear-where-requires : tie.Need-clear-where-requires
 clear-where-requires c κs =
@@ -77,8 +74,7 @@ check-on-spec =
     same-length
     returns
     begin-requires
-    cast-w
-    mul-word
+    cell-words-requires
     array-borrow-prefix-word
     slice-aggregate-check-builds
     check-builds-requires

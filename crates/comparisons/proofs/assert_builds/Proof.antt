@@ -7,12 +7,6 @@ use borrow.Author.Needs.{needs}
 use Rattle.comparisons.proofs.assert_builds.Statement.{statement}
 use Rattle.comparisons.proofs.assert_builds.Tie as tie
 
-cast-n : tie.Need-cast-n
-cast-n c = search needs
-
-cast-w : tie.Need-cast-w
-cast-w c = search needs
-
 cast-entries : tie.Need-cast-entries
 cast-entries c = search needs
 
@@ -21,13 +15,13 @@ look-requires c κs = search needs
 
 inside-requires : tie.Need-inside-requires
 inside-requires c κs =
-    let p = c .before .before .before .before .before .before .before .before .before .before .before .before .before .before .before .before .before .before .before .pre in
+    let p = c .before .before .before .before .before .before .before .before .before .before .before .before .before .before .before .before .before .pre in
     let t = c .before .before .before .before .before .before .before .look .ensures in
-    (t .sound, c .before .before .before .before .before .before .before .look .kept .1 .1 .1 .1 .1 .1 .1 .1 .0 ∙ p .2 ∙ sym (p .3), more-nodes (t .more) (p .4), t .nodes)
+    (t .sound, c .before .before .before .before .before .before .before .look .kept .1 .1 .1 .1 .1 .1 .1 .0 ∙ p .2 ∙ sym (p .3), more-nodes (t .more) (p .4), t .nodes)
 
 not-requires : tie.Need-not-requires
 not-requires c κs =
-    let p = c .before .before .before .before .before .before .before .before .before .before .before .before .before .before .before .before .before .before .before .before .before .before .before .before .pre in
+    let p = c .before .before .before .before .before .before .before .before .before .before .before .before .before .before .before .before .before .before .before .before .before .before .pre in
     let t = c .before .before .before .before .before .before .before .before .before .before .before .before .look .ensures in
     let x = c .before .before .before .before .inside .ensures in
     (x .sound, omega (arith, p .5, t .more, x .more))
@@ -37,7 +31,7 @@ or-requires c κs = search needs
 
 and-requires : tie.Need-and-requires
 and-requires c κs =
-    let p = c .before .before .before .before .before .before .before .before .before .before .before .before .before .before .before .before .before .before .before .before .before .before .before .before .before .before .before .before .before .before .before .before .before .before .pre in
+    let p = c .before .before .before .before .before .before .before .before .before .before .before .before .before .before .before .before .before .before .before .before .before .before .before .before .before .before .before .before .before .before .before .before .pre in
     let t = c .before .before .before .before .before .before .before .before .before .before .before .before .before .before .before .before .before .before .before .before .before .before .look .ensures in
     let x = c .before .before .before .before .before .before .before .before .before .before .before .before .before .before .inside .ensures in
     let v = c .before .before .before .before .before .before .before .before .before .not .ensures in
@@ -46,13 +40,13 @@ and-requires c κs =
 
 inside-requires-2 : tie.Need-inside-requires-2
 inside-requires-2 c κs =
-    let p = c .before .before .before .before .before .before .before .before .before .before .before .before .before .before .before .before .before .before .before .before .before .before .before .before .before .before .before .before .before .before .before .before .before .before .before .before .before .before .before .before .pre in
+    let p = c .before .before .before .before .before .before .before .before .before .before .before .before .before .before .before .before .before .before .before .before .before .before .before .before .before .before .before .before .before .before .before .before .before .before .before .before .before .before .pre in
     let t = c .before .before .before .before .before .before .before .before .before .before .before .before .before .before .before .before .before .before .before .before .before .before .before .before .before .before .before .before .look .ensures in
     let x = c .before .before .before .before .before .before .before .before .before .before .before .before .before .before .before .before .before .before .before .before .inside .ensures in
     let v = c .before .before .before .before .before .before .before .before .before .before .before .before .before .before .before .not .ensures in
     let y = c .before .before .before .before .before .before .before .before .before .before .or .ensures in
     let q = c .before .before .before .before .before .and .ensures in
-    (q .sound, p .3 ∙ sym (c .before .before .before .before .before .before .before .before .before .before .before .before .before .before .before .before .before .before .before .before .before .before .before .before .before .before .before .before .look .kept .1 .1 .1 .1 .1 .1 .1 .1 .0 ∙ p .2), more-nodes (omega (arith, x .more, v .more, y .more, q .more)) (t .nodes), more-nodes (omega (arith, t .more, x .more, v .more, y .more, q .more)) (p .4))
+    (q .sound, p .3 ∙ sym (c .before .before .before .before .before .before .before .before .before .before .before .before .before .before .before .before .before .before .before .before .before .before .before .before .before .before .before .before .look .kept .1 .1 .1 .1 .1 .1 .1 .0 ∙ p .2), more-nodes (omega (arith, x .more, v .more, y .more, q .more)) (t .nodes), more-nodes (omega (arith, t .more, x .more, v .more, y .more, q .more)) (p .4))
 
 and-requires-2 : tie.Need-and-requires-2
 and-requires-2 c κs =
@@ -76,12 +70,12 @@ same-length : tie.Need-same-length
 same-length c = c .before .before .before .or2 .kept .0 ∙ c .before .before .before .before .before .before .before .before .and2 .kept .0 ∙ c .before .before .before .before .before .before .before .before .before .before .before .before .before .inside2 .kept .0 ∙ c .before .before .before .before .before .before .before .before .before .before .before .before .before .before .before .before .before .before .before .and .kept .0 ∙ c .before .before .before .before .before .before .before .before .before .before .before .before .before .before .before .before .before .before .before .before .before .before .before .before .or .kept .0 ∙ c .before .before .before .before .before .before .before .before .before .before .before .before .before .before .before .before .before .before .before .before .before .before .before .before .before .before .before .before .before .not .kept .0 ∙ c .before .before .before .before .before .before .before .before .before .before .before .before .before .before .before .before .before .before .before .before .before .before .before .before .before .before .before .before .before .before .before .before .before .before .inside .kept .0 ∙ c .before .before .before .before .before .before .before .before .before .before .before .before .before .before .before .before .before .before .before .before .before .before .before .before .before .before .before .before .before .before .before .before .before .before .before .before .before .before .before .before .before .before .look .kept .0
 
 same-length-2 : tie.Need-same-length-2
-same-length-2 c = c .before .before .before .before .before .before .before .before .before .before .before .before .before .before .before .before .before .before .before .before .before .before .before .before .before .before .before .before .before .before .before .before .before .before .before .before .before .before .before .before .before .before .look .kept .1 .1 .1 .1 .1 .1 .1 .1 .0
+same-length-2 c = c .before .before .before .before .before .before .before .before .before .before .before .before .before .before .before .before .before .before .before .before .before .before .before .before .before .before .before .before .before .before .before .before .before .before .before .before .before .before .before .before .before .before .look .kept .1 .1 .1 .1 .1 .1 .1 .0
 
 returns : tie.Need-returns
 unfolding Assert Look entryStep
 returns c =
-    let p = c .before .before .before .before .before .before .before .before .before .before .before .before .before .before .before .before .before .before .before .before .before .before .before .before .before .before .before .before .before .before .before .before .before .before .before .before .before .before .before .before .before .before .before .before .before .before .before .before .before .before .before .before .before .before .pre in
+    let p = c .before .before .before .before .before .before .before .before .before .before .before .before .before .before .before .before .before .before .before .before .before .before .before .before .before .before .before .before .before .before .before .before .before .before .before .before .before .before .before .before .before .before .before .before .before .before .before .before .before .before .before .before .pre in
     let t = c .before .before .before .before .before .before .before .before .before .before .before .before .before .before .before .before .before .before .before .before .before .before .before .before .before .before .before .before .before .before .before .before .before .before .before .before .before .before .before .before .before .before .look .ensures in
     let x = c .before .before .before .before .before .before .before .before .before .before .before .before .before .before .before .before .before .before .before .before .before .before .before .before .before .before .before .before .before .before .before .before .before .before .inside .ensures in
     let v = c .before .before .before .before .before .before .before .before .before .before .before .before .before .before .before .before .before .before .before .before .before .before .before .before .before .before .before .before .before .not .ensures in
@@ -90,14 +84,12 @@ returns c =
     let i = c .before .before .before .before .before .before .before .before .before .before .before .before .before .inside2 .ensures in
     let z = c .before .before .before .before .before .before .before .before .and2 .ensures in
     let k = c .before .before .before .or2 .ensures in
-    record { is = next-is _ (t .is) (next-is _ (rw (p .3) at (x .is)) (next-is _ (v .is) (next-is _ (y .is) (next-is _ (q .is) (next-is _ (rw (c .before .before .before .before .before .before .before .before .before .before .before .before .before .before .before .before .before .before .before .before .before .before .before .before .before .before .before .before .before .before .before .before .before .before .before .before .before .before .before .before .before .before .look .kept .1 .1 .1 .1 .1 .1 .1 .1 .0 ∙ p .2) at (i .is)) (next-is _ (z .is) (next-is _ (k .is) refl))))))); sound = k .sound; more = omega (arith, t .more, x .more, v .more, y .more, q .more, i .more, z .more, k .more); node = omega (arith, v .node, y .more, q .more, i .more, z .more, k .more) }
+    record { is = next-is _ (t .is) (next-is _ (rw (p .3) at (x .is)) (next-is _ (v .is) (next-is _ (y .is) (next-is _ (q .is) (next-is _ (rw (c .before .before .before .before .before .before .before .before .before .before .before .before .before .before .before .before .before .before .before .before .before .before .before .before .before .before .before .before .before .before .before .before .before .before .before .before .before .before .before .before .before .before .look .kept .1 .1 .1 .1 .1 .1 .1 .0 ∙ p .2) at (i .is)) (next-is _ (z .is) (next-is _ (k .is) refl))))))); sound = k .sound; more = omega (arith, t .more, x .more, v .more, y .more, q .more, i .more, z .more, k .more); node = omega (arith, v .node, y .more, q .more, i .more, z .more, k .more) }
 
 pub assert-builds-spec : {M : Type 1} → statement M
 assert-builds-spec =
     tie.close
     (tie.spec
-    cast-n
-    cast-w
     cast-entries
     look-requires
     inside-requires

@@ -5,9 +5,6 @@ use borrow.Author.Needs.{needs}
 use Rattle.formula_record.proofs.assert_formula.Statement.{statement}
 use Rattle.formula_record.proofs.assert_formula.Tie as tie
 
-fields-requires : tie.Need-fields-requires
-fields-requires c κs = search needs
-
 assert-formula-requires : tie.Need-assert-formula-requires
 assert-formula-requires c κs = search needs
 
@@ -24,13 +21,12 @@ same-length-3 : tie.Need-same-length-3
 same-length-3 c = search needs
 
 returns : tie.Need-returns
-returns c = handed-formula asserting (now (c .before .before .before .before .before .before .before .before .before .before .before .before .before .before .before .before .before .args .text)) (now (c .before .before .before .before .before .before .before .before .before .before .before .before .before .before .before .before .before .args .predicates)) (now (c .before .before .before .before .before .before .before .before .before .before .before .before .before .before .before .before .before .args .answer)) (c .before .before .before .before .before .before .before .before .before .before .before .before .before .before .before .before .before .args .r) (now (c .before .before .before .before .before .before .before .before .before .before .before .before .before .before .before .before .before .args .words)) (now (c .before .before .before .before .before .before .before .before .before .before .before .before .before .before .before .before .before .args .list)) (c .formula-result .result .after) _ _ _ _ (c .formula-result .ensures) (rw (c .before .before .before .before .before .before .before .before .before .before .before .fields .ensures) at (c .before .before .before .before .before .before .before .assert-formula .ensures))
+returns c = handed-formula asserting (now (c .before .before .before .before .before .before .before .before .before .before .before .before .before .before .before .before .args .text)) (now (c .before .before .before .before .before .before .before .before .before .before .before .before .before .before .before .before .args .predicates)) (now (c .before .before .before .before .before .before .before .before .before .before .before .before .before .before .before .before .args .answer)) (c .before .before .before .before .before .before .before .before .before .before .before .before .before .before .before .before .args .r) (now (c .before .before .before .before .before .before .before .before .before .before .before .before .before .before .before .before .args .words)) (now (c .before .before .before .before .before .before .before .before .before .before .before .before .before .before .before .before .args .list)) (c .formula-result .result .after) _ _ _ _ (c .formula-result .ensures) (c .before .before .before .before .before .before .before .assert-formula .ensures)
 
 pub assert-formula-spec : {M : Type 1} → statement M
 assert-formula-spec =
     tie.close
     (tie.spec
-    fields-requires
     assert-formula-requires
     formula-result-requires
     same-length

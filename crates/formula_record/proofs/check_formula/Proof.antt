@@ -5,9 +5,6 @@ use borrow.Author.Needs.{needs}
 use Rattle.formula_record.proofs.check_formula.Statement.{statement}
 use Rattle.formula_record.proofs.check_formula.Tie as tie
 
-fields-requires : tie.Need-fields-requires
-fields-requires c κs = search needs
-
 check-formula-requires : tie.Need-check-formula-requires
 check-formula-requires c κs = search needs
 
@@ -21,13 +18,12 @@ same-length-2 : tie.Need-same-length-2
 same-length-2 c = search needs
 
 returns : tie.Need-returns
-returns c = handed-formula checking (now (c .before .before .before .before .before .before .before .before .before .before .before .before .before .before .args .text)) (now (c .before .before .before .before .before .before .before .before .before .before .before .before .before .before .args .predicates)) (now (c .before .before .before .before .before .before .before .before .before .before .before .before .before .before .args .answer)) (c .before .before .before .before .before .before .before .before .before .before .before .before .before .before .args .r) (now (c .before .before .before .before .before .before .before .before .before .before .before .before .before .before .args .words)) (now (c .before .before .before .before .before .before .before .before .before .before .before .before .before .before .args .list)) (c .formula-result .result .after) _ _ _ _ (c .formula-result .ensures) (rw (c .before .before .before .before .before .before .before .before .fields .ensures) at (c .before .before .before .before .before .check-formula .ensures))
+returns c = handed-formula checking (now (c .before .before .before .before .before .before .before .before .before .before .before .before .before .args .text)) (now (c .before .before .before .before .before .before .before .before .before .before .before .before .before .args .predicates)) (now (c .before .before .before .before .before .before .before .before .before .before .before .before .before .args .answer)) (c .before .before .before .before .before .before .before .before .before .before .before .before .before .args .r) (now (c .before .before .before .before .before .before .before .before .before .before .before .before .before .args .words)) (now (c .before .before .before .before .before .before .before .before .before .before .before .before .before .args .list)) (c .formula-result .result .after) _ _ _ _ (c .formula-result .ensures) (c .before .before .before .before .before .check-formula .ensures)
 
 pub check-formula-spec : {M : Type 1} → statement M
 check-formula-spec =
     tie.close
     (tie.spec
-    fields-requires
     check-formula-requires
     formula-result-requires
     same-length

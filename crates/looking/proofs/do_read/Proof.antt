@@ -20,7 +20,7 @@ slice-aggregate-read-into : tie.Need-slice-aggregate-read-into
 slice-aggregate-read-into c = let f = valid-few _ (c .before .before .before .before .before .before .before .before .before .before .before .pre .0 .valid) in simp length-take (omega (arith, f .1))
 
 read-into-requires : tie.Need-read-into-requires
-read-into-requires c κs = let f = valid-few _ (c .before .before .before .before .before .before .before .before .before .before .before .pre .0 .valid) in (c .before .before .before .before .before .before .before .before .before .before .before .pre .0, c .before .before .before .before .before .before .before .before .before .before .before .pre .1, c .before .before .before .before .before .before .before .before .before .before .before .pre .2, zeros-part (2 * c .before .before .before .before .before .before .before .before .before .before .before .args .c .memory .w) 32 (omega (arith, f .1)))
+read-into-requires c κs = let f = valid-few _ (c .before .before .before .before .before .before .before .before .before .before .before .pre .0 .valid) in (c .before .before .before .before .before .before .before .before .before .before .before .pre .0, c .before .before .before .before .before .before .before .before .before .before .before .pre .1, c .before .before .before .before .before .before .before .before .before .before .before .pre .2, zeros-part (2 * c .before .before .before .before .before .before .before .before .before .before .before .args .c .memory .fields .sizes .w) 32 (omega (arith, f .1)))
 
 same-length : tie.Need-same-length
 same-length c = search needs

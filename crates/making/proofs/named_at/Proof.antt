@@ -25,20 +25,17 @@ wide-requires c κs = search needs
 mul-at : tie.Need-mul-at
 mul-at c = rw (c .wide .ensures, c .before .before .predicate-words .ensures) (omega (arith, c .before .before .before .before .before .pre .fits))
 
-cast-t7 : tie.Need-cast-t7
-cast-t7 c = search needs
+address-words-requires : tie.Need-address-words-requires
+address-words-requires c κs = search needs
 
-mul-t8 : tie.Need-mul-t8
-mul-t8 c = search needs
+add-word : tie.Need-add-word
+add-word c = rw (c .before .wide .ensures, c .before .before .before .predicate-words .ensures) (omega (arith, c .before .before .before .before .before .before .pre .fits, c .address-words .ensures))
 
-add-t10 : tie.Need-add-t10
-add-t10 c = rw (c .before .wide .ensures, c .before .before .before .predicate-words .ensures) (omega (arith, c .before .before .before .before .before .before .pre .fits))
-
-add-t9 : tie.Need-add-t9
-add-t9 c = rw (c .before .wide .ensures, c .before .before .before .predicate-words .ensures) (omega (arith, c .before .before .before .before .before .before .pre .fits))
+add-end : tie.Need-add-end
+add-end c = rw (c .before .wide .ensures, c .before .before .before .predicate-words .ensures) (omega (arith, c .before .before .before .before .before .before .pre .fits))
 
 returns : tie.Need-returns
-returns c = rw (c .before .wide .ensures, c .before .before .before .predicate-words .ensures) (record { is = refl; word = refl; «end» = refl; fits = c .before .before .before .before .before .before .pre .fits })
+returns c = rw (c .before .wide .ensures, c .before .before .before .predicate-words .ensures, c .address-words .ensures) (record { is = refl; word = refl; «end» = refl; fits = c .before .before .before .before .before .before .pre .fits })
 
 pub named-at-spec : {M : Type 1} → statement M
 named-at-spec =
@@ -51,8 +48,7 @@ named-at-spec =
     shared-slice-read-wide
     wide-requires
     mul-at
-    cast-t7
-    mul-t8
-    add-t10
-    add-t9
+    address-words-requires
+    add-word
+    add-end
     returns)

@@ -1,16 +1,14 @@
+use mathlib.Core.Path.{refl}
 use Rattle.memory.proofs.HandLaws.{refused-by, answered-by}
 use borrow.Author.Needs.{needs}
 use Rattle.memory.proofs.node_result.Statement.{statement}
 use Rattle.memory.proofs.node_result.Tie as tie
 
-recorded-requires : tie.Need-recorded-requires
-recorded-requires c κs = search needs
-
 returns : tie.Need-returns
-returns c = (c .before .recorded .ensures, refused-by _ _ (c .if1 .taken))
+returns c = (refl, refused-by _ _ (c .if1 .taken))
 
 returns-2 : tie.Need-returns-2
-returns-2 c = (c .before .recorded .ensures, answered-by _ (c .if1 .left))
+returns-2 c = (refl, answered-by _ (c .if1 .left))
 
 pub node-result-spec : {M : Type 1} → statement M
-node-result-spec = tie.close (tie.spec recorded-requires returns returns-2)
+node-result-spec = tie.close (tie.spec returns returns-2)

@@ -1,7 +1,7 @@
 use mathlib.Core.Path.{_∙_}
 use denote.Ref.{now}
 use Rattle.model.specs.Step.{evaluate, closed, finishNode}
-use Rattle.rows.specs.Contract.{recordOf, stateOf}
+use Rattle.rows.specs.Contract.{stateOf}
 use Rattle.node_calls.proofs.NodeLaws.{evaluate-holds}
 use Rattle.rows.proofs.CallLaws.{node-turned, node-acted}
 use borrow.Author.Needs.{needs}
@@ -16,7 +16,7 @@ returns c = λ l. node-turned (evaluate (c .before .before .before .args .f) (c 
 
 evaluate-requires : tie.Need-evaluate-requires
 evaluate-requires c κs =
-    let H = evaluate-holds (recordOf (c .before .before .before .args .r)) (now (c .before .before .before .args .words)) (c .before .before .before .args .f) (c .before .evaluate-row .ensures) (c .if1 .left) in
+    let H = evaluate-holds (c .before .before .before .args .r) (now (c .before .before .before .args .words)) (c .before .before .before .args .f) (c .before .evaluate-row .ensures) (c .if1 .left) in
     (H .0, H .1)
 
 returns-2 : tie.Need-returns-2

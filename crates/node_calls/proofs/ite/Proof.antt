@@ -1,6 +1,6 @@
 use Rattle.node_calls.proofs.NodeLaws.{ite-holds}
 use Rattle.rows.proofs.CallLaws.{node-turned, node-acted, nine-acts, done-acts}
-use Rattle.rows.specs.Contract.{recordOf, stateOf}
+use Rattle.rows.specs.Contract.{stateOf}
 use Rattle.conditions.proofs.Promises.{zeros-sound, builds-clear, ite-builds, user-is, user-stands}
 use Rattle.model.specs.Step.{ite, closed, finishNode}
 use denote.Ref.{now}
@@ -24,7 +24,7 @@ begin-requires c κs = search needs
 
 ite-requires : tie.Need-ite-requires
 ite-requires c κs =
-    let H = ite-holds (recordOf (c .before .before .before .before .before .before .before .args .r)) (now (c .before .before .before .before .before .before .before .args .words)) (c .before .before .before .before .before .before .before .args .f) (c .before .before .before .before .before .before .before .args .g) (c .before .before .before .before .before .before .before .args .h) (c .before .before .before .before .ite-row .ensures) (c .before .before .before .if1 .left) in
+    let H = ite-holds (c .before .before .before .before .before .before .before .args .r) (now (c .before .before .before .before .before .before .before .args .words)) (c .before .before .before .before .before .before .before .args .f) (c .before .before .before .before .before .before .before .args .g) (c .before .before .before .before .before .before .before .args .h) (c .before .before .before .before .ite-row .ensures) (c .before .before .before .if1 .left) in
     rw (c .begin .ensures) (zeros-sound _ 32768 (H .0), user-is _ _ _ (H .1) .0, user-is _ _ _ (H .2) .0, user-is _ _ _ (H .3) .0)
 
 clear-where-requires : tie.Need-clear-where-requires
@@ -38,7 +38,7 @@ same-length-2 c = search needs
 returns-2 : tie.Need-returns-2
 unfolding finishNode closed
 returns-2 c =
-    let H = ite-holds (recordOf (c .before .before .before .before .before .before .before .before .before .before .before .before .before .before .before .args .r)) (now (c .before .before .before .before .before .before .before .before .before .before .before .before .before .before .before .args .words)) (c .before .before .before .before .before .before .before .before .before .before .before .before .before .before .before .args .f) (c .before .before .before .before .before .before .before .before .before .before .before .before .before .before .before .args .g) (c .before .before .before .before .before .before .before .before .before .before .before .before .before .before .before .args .h) (c .before .before .before .before .before .before .before .before .before .before .before .before .ite-row .ensures) (c .before .before .before .before .before .before .before .before .before .before .before .if1 .left) in
+    let H = ite-holds (c .before .before .before .before .before .before .before .before .before .before .before .before .before .before .before .args .r) (now (c .before .before .before .before .before .before .before .before .before .before .before .before .before .before .before .args .words)) (c .before .before .before .before .before .before .before .before .before .before .before .before .before .before .before .args .f) (c .before .before .before .before .before .before .before .before .before .before .before .before .before .before .before .args .g) (c .before .before .before .before .before .before .before .before .before .before .before .before .before .before .before .args .h) (c .before .before .before .before .before .before .before .before .before .before .before .before .ite-row .ensures) (c .before .before .before .before .before .before .before .before .before .before .before .if1 .left) in
     let X = rw (c .before .before .before .before .before .before .before .before .begin .ensures) at (c .before .before .before .before .before .before .before .ite .ensures) in
     λ l. node-acted (ite (c .before .before .before .before .before .before .before .before .before .before .before .before .before .before .before .args .f) (c .before .before .before .before .before .before .before .before .before .before .before .before .before .before .before .args .g) (c .before .before .before .before .before .before .before .before .before .before .before .before .before .before .before .args .h)) (stateOf (c .before .before .before .before .before .before .before .before .before .before .before .before .before .before .before .args .r) (now (c .before .before .before .before .before .before .before .before .before .before .before .before .before .before .before .args .words)) l) (c .before .before .before .before .before .before .before .before .before .before .before .before .ite-row .ensures) (c .before .before .before .before .before .before .before .before .before .before .before .if1 .left) ∙ nine-acts (stateOf (c .before .before .before .before .before .before .before .before .before .before .before .before .before .before .before .args .r) (now (c .before .before .before .before .before .before .before .before .before .before .before .before .before .before .before .args .words)) l) _ _ (X .is) (c .before .before .before .clear-where .ensures) (builds-clear (ite-builds (H .0) (user-stands (H .1)) (user-stands (H .2)) (user-stands (H .3)))) (c .if2 .taken)
 

@@ -1,6 +1,6 @@
 use Rattle.node_calls.proofs.NodeLaws.{variable-holds}
 use Rattle.rows.proofs.CallLaws.{node-turned, node-acted, nine-acts, done-acts}
-use Rattle.rows.specs.Contract.{recordOf, stateOf}
+use Rattle.rows.specs.Contract.{stateOf}
 use Rattle.conditions.proofs.Promises.{zeros-sound, builds-clear, variable-builds}
 use Rattle.model.specs.Step.{variable, closed, finishNode}
 use denote.Ref.{now}
@@ -24,7 +24,7 @@ begin-requires c κs = search needs
 
 variable-requires : tie.Need-variable-requires
 variable-requires c κs =
-    let H = variable-holds (recordOf (c .before .before .before .before .before .before .before .args .r)) (now (c .before .before .before .before .before .before .before .args .words)) (c .before .before .before .before .before .before .before .args .v) (c .before .before .before .before .variable-row .ensures) (c .before .before .before .if1 .left) in
+    let H = variable-holds (c .before .before .before .before .before .before .before .args .r) (now (c .before .before .before .before .before .before .before .args .words)) (c .before .before .before .before .before .before .before .args .v) (c .before .before .before .before .variable-row .ensures) (c .before .before .before .if1 .left) in
     rw (c .begin .ensures) (zeros-sound _ 32768 (H .0), H .1)
 
 clear-where-requires : tie.Need-clear-where-requires
@@ -38,7 +38,7 @@ same-length-2 c = search needs
 returns-2 : tie.Need-returns-2
 unfolding finishNode closed
 returns-2 c =
-    let H = variable-holds (recordOf (c .before .before .before .before .before .before .before .before .before .before .before .before .before .before .before .args .r)) (now (c .before .before .before .before .before .before .before .before .before .before .before .before .before .before .before .args .words)) (c .before .before .before .before .before .before .before .before .before .before .before .before .before .before .before .args .v) (c .before .before .before .before .before .before .before .before .before .before .before .before .variable-row .ensures) (c .before .before .before .before .before .before .before .before .before .before .before .if1 .left) in
+    let H = variable-holds (c .before .before .before .before .before .before .before .before .before .before .before .before .before .before .before .args .r) (now (c .before .before .before .before .before .before .before .before .before .before .before .before .before .before .before .args .words)) (c .before .before .before .before .before .before .before .before .before .before .before .before .before .before .before .args .v) (c .before .before .before .before .before .before .before .before .before .before .before .before .variable-row .ensures) (c .before .before .before .before .before .before .before .before .before .before .before .if1 .left) in
     let X = rw (c .before .before .before .before .before .before .before .before .begin .ensures) at (c .before .before .before .before .before .before .before .variable .ensures) in
     λ l. node-acted (variable (c .before .before .before .before .before .before .before .before .before .before .before .before .before .before .before .args .v)) (stateOf (c .before .before .before .before .before .before .before .before .before .before .before .before .before .before .before .args .r) (now (c .before .before .before .before .before .before .before .before .before .before .before .before .before .before .before .args .words)) l) (c .before .before .before .before .before .before .before .before .before .before .before .before .variable-row .ensures) (c .before .before .before .before .before .before .before .before .before .before .before .if1 .left) ∙ nine-acts (stateOf (c .before .before .before .before .before .before .before .before .before .before .before .before .before .before .before .args .r) (now (c .before .before .before .before .before .before .before .before .before .before .before .before .before .before .before .args .words)) l) _ _ (X .is) (c .before .before .before .clear-where .ensures) (builds-clear (variable-builds (H .0) (H .1))) (c .if2 .taken)
 

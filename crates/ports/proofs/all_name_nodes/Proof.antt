@@ -15,26 +15,23 @@ use Rattle.ports.proofs.all_name_nodes.Tie as tie
 
 -- whether row 5 accepts each of the words that a port holds
 abbrev names : List ℕ → ℕ → List ℕ → ℕ → ℕ → Bool
-names words count ports w p = every (λ (i : ℕ). isUser words count (getD ports (portAt p + i) 0)) 0 (2 * w)
+names words count ports k p = every (λ (i : ℕ). isUser words count (getD ports (portAt p + i) 0)) 0 k
 
 -- what a test of the words from its place on answers
-told : (words : List ℕ) (count : ℕ) (ports : List ℕ) (w p : ℕ) {b : Bool}
-    → b ≡ every (λ (i : ℕ). isUser words count (getD (take (length ports - p * 32) (drop (p * 32) ports)) i 0)) 0 (2 * w)
-    → b ≡ names words count ports w p
-told words count ports w p e =
+told : (words : List ℕ) (count : ℕ) (ports : List ℕ) (k p : ℕ) {b : Bool}
+    → b ≡ every (λ (i : ℕ). isUser words count (getD (take (length ports - p * 32) (drop (p * 32) ports)) i 0)) 0 k
+    → b ≡ names words count ports k p
+told words count ports k p e =
     let h : length (drop (p * 32) ports) ≤ length ports - p * 32 = omega (arith, length-drop (p * 32) ports) in
     e
-    ∙ ap (λ (l : List ℕ). every (λ (i : ℕ). isUser words count (getD l i 0)) 0 (2 * w)) (take-all _ _ h)
-    ∙ ap (λ (f : ℕ → ℕ). every (λ (i : ℕ). isUser words count (f i)) 0 (2 * w)) (λ t i. getD-drop (p * 32) ports i 0 t)
+    ∙ ap (λ (l : List ℕ). every (λ (i : ℕ). isUser words count (getD l i 0)) 0 k) (take-all _ _ h)
+    ∙ ap (λ (f : ℕ → ℕ). every (λ (i : ℕ). isUser words count (f i)) 0 k) (λ t i. getD-drop (p * 32) ports i 0 t)
 
 abbrev Inv-loop : tie.InvT-loop
-Inv-loop words count ports w k p₀ p = every (names words count ports w) p (4 - p) ≡ every (names words count ports w) 0 4
+Inv-loop words count ports k p₀ p = every (names words count ports k) p (4 - p) ≡ every (names words count ports k) 0 4
 
 abbrev μ-loop : tie.MeasureT-loop
-μ-loop words count ports w k p₀ p = 4 - p
-
-mul-k : tie.Need-mul-k Inv-loop μ-loop
-mul-k c = omega arith
+μ-loop words count ports k p₀ p = 4 - p
 
 loop-holds : tie.Need-loop-holds Inv-loop μ-loop
 loop-holds c = refl
@@ -58,7 +55,7 @@ users-up-to-requires : tie.Need-users-up-to-requires Inv-loop μ-loop
 users-up-to-requires c κs = search needs
 
 returns : tie.Need-returns Inv-loop μ-loop
-returns c = every-fails _ _ _ (c .before .before .before .before .loop .inv) (c .before .before .before .loop-test .taken) (told (c .before .before .before .before .before .before .before .args .words .now) (c .before .before .before .before .before .before .before .args .count) (c .before .before .before .before .before .before .before .args .ports .now) (c .before .before .before .before .before .before .before .args .w) (c .before .before .before .before .loop .p) (c .before .users-up-to .ensures)) (c .if1 .taken)
+returns c = every-fails _ _ _ (c .before .before .before .before .loop .inv) (c .before .before .before .loop-test .taken) (told (c .before .before .before .before .before .before .before .args .words .now) (c .before .before .before .before .before .before .before .args .count) (c .before .before .before .before .before .before .before .args .ports .now) (c .before .before .before .before .before .before .before .args .k) (c .before .before .before .before .loop .p) (c .before .users-up-to .ensures)) (c .if1 .taken)
 
 add-p : tie.Need-add-p Inv-loop μ-loop
 add-p c = omega arith
@@ -67,7 +64,7 @@ loop-less : tie.Need-loop-less Inv-loop μ-loop
 loop-less c = omega arith
 
 loop-again : tie.Need-loop-again Inv-loop μ-loop
-loop-again c = every-goes-on _ _ _ (c .before .before .before .before .loop .inv) (c .before .before .before .loop-test .taken) (told (c .before .before .before .before .before .before .before .args .words .now) (c .before .before .before .before .before .before .before .args .count) (c .before .before .before .before .before .before .before .args .ports .now) (c .before .before .before .before .before .before .before .args .w) (c .before .before .before .before .loop .p) (c .before .users-up-to .ensures)) (c .if1 .left)
+loop-again c = every-goes-on _ _ _ (c .before .before .before .before .loop .inv) (c .before .before .before .loop-test .taken) (told (c .before .before .before .before .before .before .before .args .words .now) (c .before .before .before .before .before .before .before .args .count) (c .before .before .before .before .before .before .before .args .ports .now) (c .before .before .before .before .before .before .before .args .k) (c .before .before .before .before .loop .p) (c .before .users-up-to .ensures)) (c .if1 .left)
 
 returns-2 : tie.Need-returns-2 Inv-loop μ-loop
 returns-2 c = every-stops _ _ _ (c .before .loop .inv) (c .loop-test .left)
@@ -78,7 +75,6 @@ all-name-nodes-spec =
     (tie.spec
     Inv-loop
     μ-loop
-    mul-k
     loop-holds
     mul-at
     mul-users-up-to

@@ -25,27 +25,24 @@ returns c =
     let T = turned-on (read (c .before .before .before .before .before .before .before .before .before .before .args .port) (now (c .before .before .before .before .before .before .before .before .before .before .args .enable)) (now (c .before .before .before .before .before .before .before .before .before .before .args .address)) (now (c .before .before .before .before .before .before .before .before .before .before .args .answer))) (portedOf (c .before .before .before .before .before .before .before .before .before .before .args .r) (now (c .before .before .before .before .before .before .before .before .before .before .args .words)) (now (c .before .before .before .before .before .before .before .before .before .before .args .list)) (now (c .before .before .before .before .before .before .before .before .before .before .args .ports))) (c .before .read-row .ensures) _ (c .if1 .taken) in
     record { is = record { is = T .is; leaves = leaves-words (c .before .read-row .result) (now (c .before .before .before .before .before .before .before .before .before .before .args .answer)) }; sound = T .sound }
 
-cast-w : tie.Need-cast-w
-cast-w c = search needs
-
-mul-word : tie.Need-mul-word
-mul-word c = search needs
+data-words-requires : tie.Need-data-words-requires
+data-words-requires c κs = search needs
 
 array-borrow-prefix-word : tie.Need-array-borrow-prefix-word
 array-borrow-prefix-word c =
     let H = read-holds (c .before .before .before .before .before .before .before .before .before .before .before .before .before .before .before .args .r) (now (c .before .before .before .before .before .before .before .before .before .before .before .before .before .before .before .args .words)) (now (c .before .before .before .before .before .before .before .before .before .before .before .before .before .before .before .args .list)) (now (c .before .before .before .before .before .before .before .before .before .before .before .before .before .before .before .args .ports)) (c .before .before .before .before .before .before .before .before .before .before .before .before .before .before .before .args .port) (now (c .before .before .before .before .before .before .before .before .before .before .before .before .before .before .before .args .enable)) (now (c .before .before .before .before .before .before .before .before .before .before .before .before .before .before .before .args .address)) (now (c .before .before .before .before .before .before .before .before .before .before .before .before .before .before .before .args .answer)) (c .before .before .before .before .before .before .before .before .before .before .before .before .before .before .before .pre .1 .long) (sym (c .before .before .before .before .before .before .read-row .ensures) ∙ c .before .before .before .before .before .if1 .left) in
-    omega (arith, H .wide)
+    omega (arith, H .wide, c .before .before .before .before .data-words .ensures)
 
 slice-aggregate-read-into : tie.Need-slice-aggregate-read-into
 slice-aggregate-read-into c =
     let H = read-holds (c .before .before .before .before .before .before .before .before .before .before .before .before .before .before .before .before .args .r) (now (c .before .before .before .before .before .before .before .before .before .before .before .before .before .before .before .before .args .words)) (now (c .before .before .before .before .before .before .before .before .before .before .before .before .before .before .before .before .args .list)) (now (c .before .before .before .before .before .before .before .before .before .before .before .before .before .before .before .before .args .ports)) (c .before .before .before .before .before .before .before .before .before .before .before .before .before .before .before .before .args .port) (now (c .before .before .before .before .before .before .before .before .before .before .before .before .before .before .before .before .args .enable)) (now (c .before .before .before .before .before .before .before .before .before .before .before .before .before .before .before .before .args .address)) (now (c .before .before .before .before .before .before .before .before .before .before .before .before .before .before .before .before .args .answer)) (c .before .before .before .before .before .before .before .before .before .before .before .before .before .before .before .before .pre .1 .long) (sym (c .before .before .before .before .before .before .before .read-row .ensures) ∙ c .before .before .before .before .before .before .if1 .left) in
-    simp length-take (omega (arith, H .wide))
+    simp length-take (omega (arith, H .wide, c .before .before .before .before .before .data-words .ensures))
 
 read-into-requires : tie.Need-read-into-requires
 read-into-requires c κs =
     let p = c .before .before .before .before .before .before .before .before .before .before .before .before .before .before .before .before .pre in
     let H = read-holds (c .before .before .before .before .before .before .before .before .before .before .before .before .before .before .before .before .args .r) (now (c .before .before .before .before .before .before .before .before .before .before .before .before .before .before .before .before .args .words)) (now (c .before .before .before .before .before .before .before .before .before .before .before .before .before .before .before .before .args .list)) (now (c .before .before .before .before .before .before .before .before .before .before .before .before .before .before .before .before .args .ports)) (c .before .before .before .before .before .before .before .before .before .before .before .before .before .before .before .before .args .port) (now (c .before .before .before .before .before .before .before .before .before .before .before .before .before .before .before .before .args .enable)) (now (c .before .before .before .before .before .before .before .before .before .before .before .before .before .before .before .before .args .address)) (now (c .before .before .before .before .before .before .before .before .before .before .before .before .before .before .before .before .args .answer)) (c .before .before .before .before .before .before .before .before .before .before .before .before .before .before .before .before .pre .1 .long) (sym (c .before .before .before .before .before .before .before .read-row .ensures) ∙ c .before .before .before .before .before .before .if1 .left) in
-    (sym (c .before .before .before .before .before .before .before .read-row .ensures) ∙ c .before .before .before .before .before .before .if1 .left, p .2, simp length-take (omega (arith, H .wide)), p .1 .long)
+    (sym (c .before .before .before .before .before .before .before .read-row .ensures) ∙ c .before .before .before .before .before .before .if1 .left, p .2, simp length-take (omega (arith, H .wide, c .before .before .before .before .before .data-words .ensures)), p .1 .long)
 
 same-length-3 : tie.Need-same-length-3
 same-length-3 c = search needs
@@ -64,8 +61,7 @@ read-on-spec =
     same-length
     same-length-2
     returns
-    cast-w
-    mul-word
+    data-words-requires
     array-borrow-prefix-word
     slice-aggregate-read-into
     read-into-requires

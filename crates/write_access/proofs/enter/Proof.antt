@@ -1,6 +1,6 @@
 use Rattle.write_access.proofs.WriteLaws.{write-holds}
 use Rattle.rows.proofs.CallLaws.{acted, nine-acts, eight-acts, done-acts, over-sound, cleared-by, left-by}
-use Rattle.rows.specs.Contract.{recordOf, stateOf}
+use Rattle.rows.specs.Contract.{stateOf}
 use Rattle.model.proofs.ListLaws.{capacity-most}
 use Rattle.model.proofs.FactLaws.{space-room}
 use Rattle.model.specs.Step.{write, closed, finishAccess, finishWrite}
@@ -60,11 +60,7 @@ returns c =
     record { is = acted (write (now (c .before .before .before .before .before .before .before .before .before .before .before .before .before .before .before .before .before .before .before .args .enable)) (now (c .before .before .before .before .before .before .before .before .before .before .before .before .before .before .before .before .before .before .before .args .address)) (now (c .before .before .before .before .before .before .before .before .before .before .before .before .before .before .before .before .before .before .before .args .«data»))) s refl (p .1) ∙ (rw (p .2) (nine-acts s _ _ (M .is) (c .before .before .before .clear-where .ensures) (H .clears) (c .if1 .taken))); sound = λ z. absurd (true≢false z) }
 
 has-space-requires : tie.Need-has-space-requires
-has-space-requires c κs =
-    let s = (stateOf (c .before .before .before .before .before .before .before .before .before .before .before .before .before .before .before .before .before .before .before .before .before .args .r) (now (c .before .before .before .before .before .before .before .before .before .before .before .before .before .before .before .before .before .before .before .before .before .args .words)) (now (c .before .before .before .before .before .before .before .before .before .before .before .before .before .before .before .before .before .before .before .before .before .args .list))) in
-    let p = c .before .before .before .before .before .before .before .before .before .before .before .before .before .before .before .before .before .before .before .before .before .pre in
-    let H = write-holds s (now (c .before .before .before .before .before .before .before .before .before .before .before .before .before .before .before .before .before .before .before .before .before .args .enable)) (now (c .before .before .before .before .before .before .before .before .before .before .before .before .before .before .before .before .before .before .before .before .before .args .address)) (now (c .before .before .before .before .before .before .before .before .before .before .before .before .before .before .before .before .before .before .before .before .before .args .«data»)) (p .1) in
-    (H .few, H .wide)
+has-space-requires c κs = search needs
 
 clear-where-requires-2 : tie.Need-clear-where-requires-2
 clear-where-requires-2 c κs =
@@ -95,13 +91,13 @@ append-entry-requires c κs =
     let H = write-holds s (now (c .before .before .before .before .before .before .before .before .before .before .before .before .before .before .before .before .before .before .before .before .before .before .before .before .before .before .before .args .enable)) (now (c .before .before .before .before .before .before .before .before .before .before .before .before .before .before .before .before .before .before .before .before .before .before .before .before .before .before .before .args .address)) (now (c .before .before .before .before .before .before .before .before .before .before .before .before .before .before .before .before .before .before .before .before .before .before .before .before .before .before .before .args .«data»)) (p .1) in
     let g = left-by _ _ (not (c .before .before .before .before .before .has-space .result)) (c .before .before .before .before .clear-where2 .ensures) (c .before .if2 .left) in
     let u = sym (c .before .before .before .before .before .has-space .ensures) ∙ not-false (c .before .before .before .before .before .has-space .result) (g .1) in
-    record { few = H .few; wide = H .wide; space = space-room (recordOf (c .before .before .before .before .before .before .before .before .before .before .before .before .before .before .before .before .before .before .before .before .before .before .before .before .before .before .before .args .r)) [] (now (c .before .before .before .before .before .before .before .before .before .before .before .before .before .before .before .before .before .before .before .before .before .before .before .before .before .before .before .args .list)) u; pairs = H .pairs; word = H .word }
+    record { few = H .few; wide = H .wide; space = space-room (c .before .before .before .before .before .before .before .before .before .before .before .before .before .before .before .before .before .before .before .before .before .before .before .before .before .before .before .args .r) [] (now (c .before .before .before .before .before .before .before .before .before .before .before .before .before .before .before .before .before .before .before .before .before .before .before .before .before .before .before .args .list)) u; pairs = H .pairs; word = H .word }
 
 add-after : tie.Need-add-after
 add-after c =
     let g = left-by _ _ (not (c .before .before .before .before .before .before .before .before .before .has-space .result)) (c .before .before .before .before .before .before .before .before .clear-where2 .ensures) (c .before .before .before .before .before .if2 .left) in
     let u = sym (c .before .before .before .before .before .before .before .before .before .has-space .ensures) ∙ not-false (c .before .before .before .before .before .before .before .before .before .has-space .result) (g .1) in
-    omega (arith, capacity-most _ _ _ (space-room (recordOf (c .before .before .before .before .before .before .before .before .before .before .before .before .before .before .before .before .before .before .before .before .before .before .before .before .before .before .before .before .before .before .before .args .r)) [] (now (c .before .before .before .before .before .before .before .before .before .before .before .before .before .before .before .before .before .before .before .before .before .before .before .before .before .before .before .before .before .before .before .args .list)) u))
+    omega (arith, capacity-most _ _ _ (space-room (c .before .before .before .before .before .before .before .before .before .before .before .before .before .before .before .before .before .before .before .before .before .before .before .before .before .before .before .before .before .before .before .args .r) [] (now (c .before .before .before .before .before .before .before .before .before .before .before .before .before .before .before .before .before .before .before .before .before .before .before .before .before .before .before .before .before .before .before .args .list)) u))
 
 same-length-4 : tie.Need-same-length-4
 same-length-4 c = search needs

@@ -6,9 +6,6 @@ use borrow.Author.Needs.{needs}
 use Rattle.memory.proofs.Record.assert.Statement.{statement}
 use Rattle.memory.proofs.Record.assert.Tie as tie
 
-fields-requires : tie.Need-fields-requires
-fields-requires c κs = search needs
-
 assert-requires : tie.Need-assert-requires
 assert-requires c κs = search needs
 
@@ -22,13 +19,12 @@ same-length-2 : tie.Need-same-length-2
 same-length-2 c = search needs
 
 returns : tie.Need-returns
-returns c = handed (assert (c .before .before .before .before .before .before .before .before .before .before .before .before .before .args .b .0) (now (c .before .before .before .before .before .before .before .before .before .before .before .before .before .args .address)) (now (c .before .before .before .before .before .before .before .before .before .before .before .before .before .args .«data»))) refl (c .before .before .before .before .before .before .before .before .before .before .before .before .before .args .self) (now (c .before .before .before .before .before .before .before .before .before .before .before .before .before .args .words)) (now (c .before .before .before .before .before .before .before .before .before .before .before .before .before .args .list)) (c .assert-result .result .after) _ _ _ (c .assert-result .ensures) (rw (c .before .before .before .before .before .before .before .before .fields .ensures) at (c .before .before .before .before .before .assert .ensures))
+returns c = handed (assert (c .before .before .before .before .before .before .before .before .before .before .before .before .args .b .0) (now (c .before .before .before .before .before .before .before .before .before .before .before .before .args .address)) (now (c .before .before .before .before .before .before .before .before .before .before .before .before .args .«data»))) refl (c .before .before .before .before .before .before .before .before .before .before .before .before .args .self) (now (c .before .before .before .before .before .before .before .before .before .before .before .before .args .words)) (now (c .before .before .before .before .before .before .before .before .before .before .before .before .args .list)) (c .assert-result .result .after) _ _ _ (c .assert-result .ensures) (c .before .before .before .before .before .assert .ensures)
 
 pub assert-spec : {M : Type 1} → statement M
 assert-spec =
     tie.close
     (tie.spec
-    fields-requires
     assert-requires
     assert-result-requires
     same-length

@@ -6,9 +6,6 @@ use borrow.Author.Needs.{needs}
 use Rattle.memory.proofs.Record.check.Statement.{statement}
 use Rattle.memory.proofs.Record.check.Tie as tie
 
-fields-requires : tie.Need-fields-requires
-fields-requires c κs = search needs
-
 check-requires : tie.Need-check-requires
 check-requires c κs = search needs
 
@@ -19,8 +16,8 @@ same-length : tie.Need-same-length
 same-length c = search needs
 
 returns : tie.Need-returns
-returns c = handed (check (c .before .before .before .before .before .before .before .before .before .before .args .b .0) (now (c .before .before .before .before .before .before .before .before .before .before .args .address)) (now (c .before .before .before .before .before .before .before .before .before .before .args .«data»))) refl (c .before .before .before .before .before .before .before .before .before .before .args .self) (now (c .before .before .before .before .before .before .before .before .before .before .args .words)) (now (c .before .before .before .before .before .before .before .before .before .before .args .list)) (c .check-result .result .after) _ _ _ (c .check-result .ensures) (rw (c .before .before .before .before .before .fields .ensures) at (c .before .before .before .check .ensures))
+returns c = handed (check (c .before .before .before .before .before .before .before .before .before .args .b .0) (now (c .before .before .before .before .before .before .before .before .before .args .address)) (now (c .before .before .before .before .before .before .before .before .before .args .«data»))) refl (c .before .before .before .before .before .before .before .before .before .args .self) (now (c .before .before .before .before .before .before .before .before .before .args .words)) (now (c .before .before .before .before .before .before .before .before .before .args .list)) (c .check-result .result .after) _ _ _ (c .check-result .ensures) (c .before .before .before .check .ensures)
 
 pub check-spec : {M : Type 1} → statement M
 check-spec =
-    tie.close (tie.spec fields-requires check-requires check-result-requires same-length returns)
+    tie.close (tie.spec check-requires check-result-requires same-length returns)

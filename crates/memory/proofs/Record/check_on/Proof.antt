@@ -6,11 +6,8 @@ use borrow.Author.Needs.{needs}
 use Rattle.memory.proofs.Record.check_on.Statement.{statement}
 use Rattle.memory.proofs.Record.check_on.Tie as tie
 
-fields-requires : tie.Need-fields-requires
-fields-requires c κs = search needs
-
 check-on-requires : tie.Need-check-on-requires
-check-on-requires c κs = rw (c .before .before .fields .ensures) (c .before .before .before .before .before .before .before .pre)
+check-on-requires c κs = c .before .before .before .before .before .before .pre
 
 check-result-requires : tie.Need-check-result-requires
 check-result-requires c κs = search needs
@@ -19,9 +16,9 @@ same-length : tie.Need-same-length
 same-length c = search needs
 
 returns : tie.Need-returns
-returns c = handed-on (check (c .before .before .before .before .before .before .before .before .before .before .before .args .b .0) (now (c .before .before .before .before .before .before .before .before .before .before .before .args .address)) (now (c .before .before .before .before .before .before .before .before .before .before .before .args .«data»))) refl (c .before .before .before .before .before .before .before .before .before .before .before .args .self) (now (c .before .before .before .before .before .before .before .before .before .before .before .args .words)) (now (c .before .before .before .before .before .before .before .before .before .before .before .args .list)) (c .check-result .result .after) _ _ _ (c .check-result .ensures) (rw (c .before .before .before .before .before .before .fields .ensures) at (c .before .before .before .check-on .ensures))
+returns c = handed-on (check (c .before .before .before .before .before .before .before .before .before .before .args .b .0) (now (c .before .before .before .before .before .before .before .before .before .before .args .address)) (now (c .before .before .before .before .before .before .before .before .before .before .args .«data»))) refl (c .before .before .before .before .before .before .before .before .before .before .args .self) (now (c .before .before .before .before .before .before .before .before .before .before .args .words)) (now (c .before .before .before .before .before .before .before .before .before .before .args .list)) (c .check-result .result .after) _ _ _ (c .check-result .ensures) (c .before .before .before .check-on .ensures)
 
 pub check-on-spec : {M : Type 1} → statement M
 check-on-spec =
     tie.close
-    (tie.spec fields-requires check-on-requires check-result-requires same-length returns)
+    (tie.spec check-on-requires check-result-requires same-length returns)

@@ -5,9 +5,6 @@ use borrow.Author.Needs.{needs}
 use Rattle.memory.proofs.Record.evaluate.Statement.{statement}
 use Rattle.memory.proofs.Record.evaluate.Tie as tie
 
-fields-requires : tie.Need-fields-requires
-fields-requires c κs = search needs
-
 evaluate-requires : tie.Need-evaluate-requires
 evaluate-requires c κs = search needs
 
@@ -16,9 +13,9 @@ value-result-requires c κs = search needs
 
 returns : tie.Need-returns
 returns c =
-    let A = rw (c .before .before .fields .ensures) at (c .before .evaluate .ensures) in
-    λ l. handed-node (evaluate (c .before .before .before .before .args .f) (c .before .before .before .before .args .a)) (c .before .before .before .before .args .self) (now (c .before .before .before .before .args .words)) l (c .value-result .result .after) _ _ (c .value-result .ensures) (A l)
+    let A = c .before .evaluate .ensures in
+    λ l. handed-node (evaluate (c .before .before .before .args .f) (c .before .before .before .args .a)) (c .before .before .before .args .self) (now (c .before .before .before .args .words)) l (c .value-result .result .after) _ _ (c .value-result .ensures) (A l)
 
 pub evaluate-spec : {M : Type 1} → statement M
 evaluate-spec =
-    tie.close (tie.spec fields-requires evaluate-requires value-result-requires returns)
+    tie.close (tie.spec evaluate-requires value-result-requires returns)

@@ -3,9 +3,6 @@ use borrow.Author.Needs.{needs}
 use Rattle.memory.proofs.Record.fresh.Statement.{statement}
 use Rattle.memory.proofs.Record.fresh.Tie as tie
 
-fields-requires : tie.Need-fields-requires
-fields-requires c κs = search needs
-
 fresh-requires : tie.Need-fresh-requires
 fresh-requires c κs = search needs
 
@@ -16,8 +13,8 @@ same-length : tie.Need-same-length
 same-length c = search needs
 
 returns : tie.Need-returns
-returns c = handed-fresh (c .fresh-result .result .after) _ (c .fresh-result .ensures) (rw (c .before .before .before .before .before .before .fields .ensures) at (c .before .before .before .fresh .ensures))
+returns c = handed-fresh (c .fresh-result .result .after) _ (c .fresh-result .ensures) (c .before .before .before .fresh .ensures)
 
 pub fresh-spec : {M : Type 1} → statement M
 fresh-spec =
-    tie.close (tie.spec fields-requires fresh-requires fresh-result-requires same-length returns)
+    tie.close (tie.spec fresh-requires fresh-result-requires same-length returns)

@@ -5,9 +5,6 @@ use borrow.Author.Needs.{needs}
 use Rattle.memory.proofs.Record.ite.Statement.{statement}
 use Rattle.memory.proofs.Record.ite.Tie as tie
 
-fields-requires : tie.Need-fields-requires
-fields-requires c κs = search needs
-
 ite-requires : tie.Need-ite-requires
 ite-requires c κs = search needs
 
@@ -19,9 +16,9 @@ same-length c = search needs
 
 returns : tie.Need-returns
 returns c =
-    let A = rw (c .before .before .before .before .before .fields .ensures) at (c .before .before .before .ite .ensures) in
-    λ l. handed-node (ite (c .before .before .before .before .before .before .before .args .f) (c .before .before .before .before .before .before .before .args .g) (c .before .before .before .before .before .before .before .args .h)) (c .before .before .before .before .before .before .before .args .self) (now (c .before .before .before .before .before .before .before .args .words)) l (c .node-result .result .after) _ _ (c .node-result .ensures) (A l)
+    let A = c .before .before .before .ite .ensures in
+    λ l. handed-node (ite (c .before .before .before .before .before .before .args .f) (c .before .before .before .before .before .before .args .g) (c .before .before .before .before .before .before .args .h)) (c .before .before .before .before .before .before .args .self) (now (c .before .before .before .before .before .before .args .words)) l (c .node-result .result .after) _ _ (c .node-result .ensures) (A l)
 
 pub ite-spec : {M : Type 1} → statement M
 ite-spec =
-    tie.close (tie.spec fields-requires ite-requires node-result-requires same-length returns)
+    tie.close (tie.spec ite-requires node-result-requires same-length returns)

@@ -4,11 +4,8 @@ use borrow.Author.Needs.{needs}
 use Rattle.memory.proofs.Record.read_on.Statement.{statement}
 use Rattle.memory.proofs.Record.read_on.Tie as tie
 
-fields-requires : tie.Need-fields-requires
-fields-requires c κs = search needs
-
 read-on-requires : tie.Need-read-on-requires
-read-on-requires c κs = rw (c .before .before .before .before .fields .ensures) (c .before .before .before .before .before .before .before .before .before .before .pre)
+read-on-requires c κs = c .before .before .before .before .before .before .before .before .before .pre
 
 read-result-requires : tie.Need-read-result-requires
 read-result-requires c κs = search needs
@@ -20,13 +17,12 @@ same-length-2 : tie.Need-same-length-2
 same-length-2 c = search needs
 
 returns : tie.Need-returns
-returns c = handed-read-on (c .before .before .before .before .before .before .before .before .before .before .before .before .before .before .before .before .args .self) (now (c .before .before .before .before .before .before .before .before .before .before .before .before .before .before .before .before .args .words)) (now (c .before .before .before .before .before .before .before .before .before .before .before .before .before .before .before .before .args .list)) (now (c .before .before .before .before .before .before .before .before .before .before .before .before .before .before .before .before .args .ports)) (c .before .before .before .before .before .before .before .before .before .before .before .before .before .before .before .before .args .port) (now (c .before .before .before .before .before .before .before .before .before .before .before .before .before .before .before .before .args .enable)) (now (c .before .before .before .before .before .before .before .before .before .before .before .before .before .before .before .before .args .address)) (now (c .before .before .before .before .before .before .before .before .before .before .before .before .before .before .before .before .args .answer)) (c .read-result .result .after) _ _ _ (c .read-result .result .answer) (c .read-result .ensures _) (rw (c .before .before .before .before .before .before .before .before .before .before .fields .ensures) at (c .before .before .before .before .before .read-on .ensures))
+returns c = handed-read-on (c .before .before .before .before .before .before .before .before .before .before .before .before .before .before .before .args .self) (now (c .before .before .before .before .before .before .before .before .before .before .before .before .before .before .before .args .words)) (now (c .before .before .before .before .before .before .before .before .before .before .before .before .before .before .before .args .list)) (now (c .before .before .before .before .before .before .before .before .before .before .before .before .before .before .before .args .ports)) (c .before .before .before .before .before .before .before .before .before .before .before .before .before .before .before .args .port) (now (c .before .before .before .before .before .before .before .before .before .before .before .before .before .before .before .args .enable)) (now (c .before .before .before .before .before .before .before .before .before .before .before .before .before .before .before .args .address)) (now (c .before .before .before .before .before .before .before .before .before .before .before .before .before .before .before .args .answer)) (c .read-result .result .after) _ _ _ (c .read-result .result .answer) (c .read-result .ensures _) (c .before .before .before .before .before .read-on .ensures)
 
 pub read-on-spec : {M : Type 1} → statement M
 read-on-spec =
     tie.close
     (tie.spec
-    fields-requires
     read-on-requires
     read-result-requires
     same-length

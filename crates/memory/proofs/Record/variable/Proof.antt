@@ -5,9 +5,6 @@ use borrow.Author.Needs.{needs}
 use Rattle.memory.proofs.Record.variable.Statement.{statement}
 use Rattle.memory.proofs.Record.variable.Tie as tie
 
-fields-requires : tie.Need-fields-requires
-fields-requires c κs = search needs
-
 variable-requires : tie.Need-variable-requires
 variable-requires c κs = search needs
 
@@ -19,9 +16,9 @@ same-length c = search needs
 
 returns : tie.Need-returns
 returns c =
-    let A = rw (c .before .before .before .before .before .fields .ensures) at (c .before .before .before .variable .ensures) in
-    λ l. handed-node (variable (c .before .before .before .before .before .before .before .args .v)) (c .before .before .before .before .before .before .before .args .self) (now (c .before .before .before .before .before .before .before .args .words)) l (c .node-result .result .after) _ _ (c .node-result .ensures) (A l)
+    let A = c .before .before .before .variable .ensures in
+    λ l. handed-node (variable (c .before .before .before .before .before .before .args .v)) (c .before .before .before .before .before .before .args .self) (now (c .before .before .before .before .before .before .args .words)) l (c .node-result .result .after) _ _ (c .node-result .ensures) (A l)
 
 pub variable-spec : {M : Type 1} → statement M
 variable-spec =
-    tie.close (tie.spec fields-requires variable-requires node-result-requires same-length returns)
+    tie.close (tie.spec variable-requires node-result-requires same-length returns)

@@ -1,9 +1,0 @@
-use mathlib.Core.Path.{refl}
-use Rattle.memory.proofs.recorded.Statement.{statement}
-use Rattle.memory.proofs.recorded.Tie as tie
-
-returns : tie.Need-returns
-returns c = refl
-
-pub recorded-spec : {M : Type 1} → statement M
-recorded-spec = tie.close (tie.spec returns)

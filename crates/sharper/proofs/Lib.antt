@@ -1,0 +1,4 @@
+pub mod PairLaws
+pub mod PublishedLaws
+pub mod RunLaws
+pub mod ExampleLaws

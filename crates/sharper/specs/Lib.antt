@@ -1,0 +1,3 @@
+pub mod Sharper
+pub mod Narrower
+pub mod Examples
