@@ -7,7 +7,7 @@ ghost use Rattle.addresses.specs.Contract.{Nodes, address_pair};
 use conditions::{Built, Store, Table};
 use model::AddressNode;
 
-#[derive(Drop)]
+#[derive(Clone, Copy)]
 pub struct AddressPair {
     pub h: AddressNode,
     pub l: AddressNode,

@@ -14,7 +14,7 @@ use conditions::Table;
 use model::Fields;
 
 // The fields after an assert, the number by which it is refused, or 0, and whether it is kept, where it is not refused.
-#[derive(Drop)]
+#[derive(Clone, Copy)]
 pub struct AssertDone {
     pub after: Fields,
     pub row: u32,

@@ -12,14 +12,14 @@ pub use model::ControlNode;
 use model::DataNode;
 use semantics::Sizes;
 
-#[derive(Drop)]
+#[derive(Clone, Copy)]
 pub struct ControlPair {
     pub h: ControlNode,
     pub l: ControlNode,
 }
 
 // A write's h and s, and the store that building them left.
-#[derive(Drop)]
+#[derive(Clone, Copy)]
 pub struct Marks {
     pub store: Store,
     pub hard: u32,

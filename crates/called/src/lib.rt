@@ -2,7 +2,7 @@
 use stored::{Item, RecordWords, length};
 
 // What a call returned, its out-word, which is 7 before, and the record.
-#[derive(Drop)]
+#[derive(Clone, Copy)]
 pub struct Done {
     pub row: u32,
     pub out: u32,

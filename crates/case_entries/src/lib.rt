@@ -14,7 +14,7 @@ use reading::Kind;
 use text::Text;
 
 // A case between two accesses: the memory, the text so far, and the byte with which the next access begins.
-#[derive(Drop)]
+#[derive(Clone, Copy)]
 pub struct Run {
     pub memory: Record,
     pub text: Text,
@@ -22,7 +22,7 @@ pub struct Run {
 }
 
 // After an access the case goes on, or is refused by this number.
-#[derive(Drop)]
+#[derive(Clone, Copy)]
 pub enum Step {
     On(Run),
     Refused(u32),

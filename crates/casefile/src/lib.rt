@@ -9,7 +9,7 @@ use memory::Record;
 use text::Text;
 
 // The text length and the last record; or a refusal's number, and how many accesses were printed before.
-#[derive(Drop)]
+#[derive(Clone, Copy)]
 pub enum CaseAnswer {
     Done { length: usize, memory: Record },
     Refused { number: u32, after: u32 },

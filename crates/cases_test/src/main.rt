@@ -3,7 +3,7 @@
 use stored::{Item, RecordWords, digest_bytes, digest_words, length, wide};
 
 // What a call returned and counted, and the record.
-#[derive(Drop)]
+#[derive(Clone, Copy)]
 struct Done {
     row: u32,
     count: u64,

@@ -11,7 +11,7 @@ use conditions::{Built, Store, Table};
 use model::Fields;
 
 // What an assert builds before its entry, and the store that this left.
-#[derive(Drop)]
+#[derive(Clone, Copy)]
 pub struct AssertBuilt {
     pub store: Store,
     pub condition: u32,

@@ -9,7 +9,7 @@ ghost use Rattle.diagrams.specs.Parts.{part_of, parts_of};
 ghost use Rattle.diagrams.specs.Keys.{key_of, slot_of};
 
 // The least top variable of three nodes, their low parts and their high parts.
-#[derive(Drop)]
+#[derive(Clone, Copy)]
 pub struct Parts {
     pub v: u32,
     pub f0: u32,

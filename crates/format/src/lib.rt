@@ -1,7 +1,7 @@
 // The form of a case file: what its bytes say, as definitions with their laws in specs/ and proofs/; no code runs here.
 
 // What the kind byte of an access selects.
-#[derive(Drop)]
+#[derive(Clone, Copy)]
 pub enum Kind {
     Write,
     Read,

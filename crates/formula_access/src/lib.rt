@@ -10,7 +10,7 @@ use model::Fields;
 use preparing::Prepared;
 
 // All that are listed were made; stopped at an access that a row refuses, with how many were made before it; refused by the call itself; or refused for the text, at a place in it.
-#[derive(Drop)]
+#[derive(Clone, Copy)]
 pub enum FormulaAnswer {
     AllMade {
         listed: usize,
@@ -28,7 +28,7 @@ pub enum FormulaAnswer {
 }
 
 // The record after a formula, and its answer.
-#[derive(Drop)]
+#[derive(Clone, Copy)]
 pub struct FormulaDone {
     pub after: Fields,
     pub answer: FormulaAnswer,

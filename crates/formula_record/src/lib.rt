@@ -7,7 +7,7 @@ pub use formula_access::FormulaAnswer;
 use formula_access::FormulaDone;
 use memory::Record;
 
-#[derive(Drop)]
+#[derive(Clone, Copy)]
 pub struct FormulaResult {
     pub after: Record,
     pub answer: FormulaAnswer,

@@ -9,14 +9,14 @@ ghost use Rattle.formula_walk.specs.Contract.{out_of, put, listed_by, MayCount, 
 use conditions::{Built, Store, Table};
 
 // What a walk does: it counts the predicates, and builds nothing; or it builds the conditions, and writes the triples of one step.
-#[derive(Drop)]
+#[derive(Clone, Copy)]
 pub enum Pass {
     Count,
     List(u32),
 }
 
 // What a walk goes by: the number of predicates in the table, and the nodes that were there before.
-#[derive(Drop)]
+#[derive(Clone, Copy)]
 pub struct Plan {
     pub pass: Pass,
     pub predicates: usize,
@@ -24,7 +24,7 @@ pub struct Plan {
 }
 
 // What is open around a place: how many more may be, how many N are, and the condition.
-#[derive(Drop)]
+#[derive(Clone, Copy)]
 pub struct Around {
     pub allowed: u32,
     pub step: u32,
@@ -32,7 +32,7 @@ pub struct Around {
 }
 
 // How far a walk has come: its place, and the row that stopped it there, or 0; how many predicates it has counted, or triples written; and the store.
-#[derive(Drop)]
+#[derive(Clone, Copy)]
 pub struct Walk {
     pub at: usize,
     pub row: u32,
@@ -160,7 +160,7 @@ fn inner(o: Around, more: u32, condition: u32) -> Around
 }
 
 // How a formula begins: with no arrow; with one that a row refuses; or with one, inside which it goes on.
-#[derive(Drop)]
+#[derive(Clone, Copy)]
 enum Arrow {
     Missing,
     Stopped(Walk),
@@ -200,7 +200,7 @@ fn begin_formula(
 }
 
 // How a unit begins: with a predicate, or what is no unit, and it is done; with `N`; or with `(`.
-#[derive(Drop)]
+#[derive(Clone, Copy)]
 enum Begun {
     Done(Walk),
     Next(Around, Walk),

@@ -2,7 +2,7 @@
 use stored::{Bytes, Item, RecordWords, Words, changed, length};
 
 // What a call returned, its out-words, which are 7 before, and the record.
-#[derive(Drop)]
+#[derive(Clone, Copy)]
 struct Done {
     row: u32,
     listed: u64,

@@ -13,7 +13,7 @@ use model::Fields;
 use rows::Done;
 
 // The record that is left, the row of the first access that was refused, or 0, and how many were made before it.
-#[derive(Drop)]
+#[derive(Clone, Copy)]
 pub struct Made {
     pub after: Fields,
     pub row: u32,
@@ -34,7 +34,7 @@ fn wide(x: u32) -> usize
 }
 
 // Where the words of a predicate begin, where its data begin, and where they end.
-#[derive(Drop)]
+#[derive(Clone, Copy)]
 struct Place {
     at: usize,
     word: usize,

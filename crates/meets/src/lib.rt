@@ -4,7 +4,7 @@ ghost use Rattle.nodes.specs.Standard.{Standard};
 ghost use Rattle.meets.specs.Meet.{judge_of, meets, Settles, Asks, neither, together, noted_in, with_note, judge_noted, NotesHold};
 
 // Whether three nodes meet at a terminal: no, yes, or as their parts do.
-#[derive(Drop)]
+#[derive(Clone, Copy)]
 pub enum Verdict {
     No,
     Yes,
@@ -91,7 +91,7 @@ fn meets_anew(words: &[u32], count: u32, t: u32, f: u32, g: u32, h: u32) -> bool
 }
 
 // What was found in a bounded number of steps, and how many are left.
-#[derive(Drop)]
+#[derive(Clone, Copy)]
 pub struct Tried {
     pub verdict: Verdict,
     pub left: u32,

@@ -20,94 +20,94 @@ use semantics::Sizes;
 use write_access::WriteDone;
 
 // The record of a memory, on which the calls are methods.
-#[derive(Drop)]
+#[derive(Clone, Copy)]
 pub struct Record {
     pub fields: Fields,
 }
 
-#[derive(Drop)]
+#[derive(Clone, Copy)]
 pub enum FreshAnswer {
     Accepted,
     Refused(u32),
 }
 
 // A write is entered, at a place counted from 0, or idle.
-#[derive(Drop)]
+#[derive(Clone, Copy)]
 pub enum WriteAnswer {
     Entered(u32),
     Idle,
     Refused(u32),
 }
 
-#[derive(Drop)]
+#[derive(Clone, Copy)]
 pub enum ReadAnswer {
     Filled,
     Refused(u32),
 }
 
-#[derive(Drop)]
+#[derive(Clone, Copy)]
 pub enum AssertAnswer {
     Entered,
     Kept,
     Refused(u32),
 }
 
-#[derive(Drop)]
+#[derive(Clone, Copy)]
 pub enum CheckAnswer {
     Accepted,
     Refused(u32),
 }
 
-#[derive(Drop)]
+#[derive(Clone, Copy)]
 pub enum NodeAnswer {
     Node(u32),
     Refused(u32),
 }
 
-#[derive(Drop)]
+#[derive(Clone, Copy)]
 pub enum ValueAnswer {
     Value(bool),
     Refused(u32),
 }
 
 // The record after a call, and the call's answer.
-#[derive(Drop)]
+#[derive(Clone, Copy)]
 pub struct FreshResult {
     pub after: Record,
     pub answer: FreshAnswer,
 }
 
-#[derive(Drop)]
+#[derive(Clone, Copy)]
 pub struct WriteResult {
     pub after: Record,
     pub answer: WriteAnswer,
 }
 
-#[derive(Drop)]
+#[derive(Clone, Copy)]
 pub struct ReadResult {
     pub after: Record,
     pub answer: ReadAnswer,
 }
 
-#[derive(Drop)]
+#[derive(Clone, Copy)]
 pub struct AssertResult {
     pub after: Record,
     pub answer: AssertAnswer,
 }
 
-#[derive(Drop)]
+#[derive(Clone, Copy)]
 pub struct CheckResult {
     pub after: Record,
     pub answer: CheckAnswer,
 }
 
-#[derive(Drop)]
+#[derive(Clone, Copy)]
 pub struct NodeResult {
     pub after: Record,
     pub answer: NodeAnswer,
 }
 
-#[derive(Drop)]
+#[derive(Clone, Copy)]
 pub struct ValueResult {
     pub after: Record,
     pub answer: ValueAnswer,

@@ -11,7 +11,7 @@ use model::{ControlNode, DataNode};
 use semantics::Sizes;
 
 // What a half r of a word becomes, beside the half of another word: an entry's e, none, or a port's p.
-#[derive(Drop)]
+#[derive(Clone, Copy)]
 pub enum Half {
     Merge { hard: u32, soft: u32 },
     Settle { inside: u32 },

@@ -2,7 +2,7 @@
 use semantics::Sizes;
 
 // "The record has n, w, node count, entry count, assert condition, check condition."
-#[derive(Drop)]
+#[derive(Clone, Copy)]
 pub struct Fields {
     pub sizes: Sizes,
     pub count: u32,
@@ -12,13 +12,13 @@ pub struct Fields {
 }
 
 // A node number of the control domain.
-#[derive(Drop)]
+#[derive(Clone, Copy)]
 pub struct ControlNode(pub u32);
 
 // A node number of the address domain.
-#[derive(Drop)]
+#[derive(Clone, Copy)]
 pub struct AddressNode(pub u32);
 
 // A node number of the data domain.
-#[derive(Drop)]
+#[derive(Clone, Copy)]
 pub struct DataNode(pub u32);

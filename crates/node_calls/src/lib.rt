@@ -11,7 +11,7 @@ use rows::Done;
 use semantics::Sizes;
 
 // The record after a call, the number by which it is refused, or 0, and the node that it answers, where it is not.
-#[derive(Drop)]
+#[derive(Clone, Copy)]
 pub struct NodeDone {
     pub after: Fields,
     pub row: u32,
@@ -19,7 +19,7 @@ pub struct NodeDone {
 }
 
 // The number by which an evaluate is refused, or 0, and the value that it answers, where it is not.
-#[derive(Drop)]
+#[derive(Clone, Copy)]
 pub struct ValueDone {
     pub row: u32,
     pub value: bool,

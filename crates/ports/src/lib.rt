@@ -6,7 +6,7 @@ ghost use Rattle.conditions.specs.User.{is_user};
 ghost use Rattle.model.specs.Record.{port_at, replaced, fresh_ports};
 
 // Four read ports of 32 words; the held word of a port is the first 2w of its own.
-#[derive(Drop)]
+#[derive(Clone, Copy)]
 pub struct Ports {
     pub words: [u32; 128],
 }

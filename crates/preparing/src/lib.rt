@@ -7,7 +7,7 @@ use formula_walk::{Pass, Plan};
 use model::Fields;
 
 // Refused, for the text at a place in it; or listed in the answer words, with the count of nodes that its conditions left.
-#[derive(Drop)]
+#[derive(Clone, Copy)]
 pub enum Prepared {
     Refused(u32),
     Faulty { row: u32, place: usize },

@@ -13,7 +13,7 @@ pub use sections::load_sections;
 use semantics::Sizes;
 
 // Where control, address and data end among the nodes of an access.
-#[derive(Drop)]
+#[derive(Clone, Copy)]
 pub struct Ends {
     pub control: usize,
     pub address: usize,
@@ -21,21 +21,21 @@ pub struct Ends {
 }
 
 // An access in the file: its kind, its port, which a read alone has, and the byte where its nodes begin.
-#[derive(Drop)]
+#[derive(Clone, Copy)]
 pub enum Access {
     Here { kind: Kind, port: u32, from: usize },
     Refused(u32),
 }
 
 // The access at a place, and the byte from which a reading goes on after it.
-#[derive(Drop)]
+#[derive(Clone, Copy)]
 pub struct Progress {
     pub access: Access,
     pub at: usize,
 }
 
 // What the sections hold: the sizes, the node count, the count of accesses and the byte where they begin.
-#[derive(Drop)]
+#[derive(Clone, Copy)]
 pub enum Loaded {
     Ready {
         sizes: Sizes,

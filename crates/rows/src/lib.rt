@@ -17,7 +17,7 @@ use model::Fields;
 pub use slices::{legal_pairs, none_unknown, users_up_to};
 
 // The record after a call, and the number by which it is refused, or 0.
-#[derive(Drop)]
+#[derive(Clone, Copy)]
 pub struct Done {
     pub after: Fields,
     pub row: u32,

@@ -25,7 +25,7 @@ pub fn users_up_to(words: &[u32], count: u32, slice: &[u32], k: usize) -> bool
 }
 
 // What no assignment may make of a pair: neither, by row 6; or X where b holds, by row 7.
-#[derive(Drop)]
+#[derive(Clone, Copy)]
 pub enum Fault {
     Neither,
     Unknown(ControlNode),

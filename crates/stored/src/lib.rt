@@ -12,7 +12,7 @@ pub type Words = [u32; 49160];
 pub type Bytes = [u8; 65600];
 
 // What the numbers say is said by the program that reads them; a kind of 0 is the end of the input.
-#[derive(Drop)]
+#[derive(Clone, Copy)]
 pub struct Item {
     pub kind: u32,
     pub a: u32,

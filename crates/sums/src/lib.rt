@@ -11,7 +11,7 @@ use conditions::{Built, Store, Table};
 use model::AddressNode;
 
 // A pair of an address that was built, and the store then.
-#[derive(Drop)]
+#[derive(Clone, Copy)]
 pub struct PairBuilt {
     pub store: Store,
     pub pair: AddressPair,

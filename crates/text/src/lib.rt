@@ -4,7 +4,7 @@ ghost use Rattle.text.specs.Text.{out, appended};
 ghost use Rattle.text.specs.Decimal.{decimal};
 
 // The place of the next byte, and whether a byte did not fit.
-#[derive(Drop)]
+#[derive(Clone, Copy)]
 pub struct Text {
     pub at: usize,
     pub full: bool,

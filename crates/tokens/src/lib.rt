@@ -7,7 +7,7 @@ ghost use Rattle.conditions.specs.User.{is_user};
 ghost use Rattle.tokens.specs.Contract.{Left, starts, starts_digit, capped, DigitsLeft, TookAt, Judges, NumberTook, number_token, within_table, arrow_token, when_token, opener_token};
 
 // A token that was read: its number, and the place behind it and its spaces. Or the row that refuses it, and the place of the fault.
-#[derive(Drop)]
+#[derive(Clone, Copy)]
 pub struct Token {
     pub row: u32,
     pub at: usize,
@@ -15,7 +15,7 @@ pub struct Token {
 }
 
 // The place behind digits, and their value, cut to 4,294,967,296.
-#[derive(Drop)]
+#[derive(Clone, Copy)]
 struct Number {
     at: usize,
     value: u64,

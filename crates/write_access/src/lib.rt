@@ -14,7 +14,7 @@ use conditions::Table;
 use model::Fields;
 
 // The fields after a write, the number by which it is refused, or 0, and whether it is idle, where it is not refused.
-#[derive(Drop)]
+#[derive(Clone, Copy)]
 pub struct WriteDone {
     pub after: Fields,
     pub row: u32,
