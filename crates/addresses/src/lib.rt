@@ -1,4 +1,6 @@
 // What the pairs of an address build: that none is X, and a condition narrowed by them.
+#![tactic(auto)]
+
 ghost use Rattle.std.specs.Prelude.{◌≡◌, ◌+◌, ◌*◌, ◌<◌, ◌≤◌, length};
 ghost use Rattle.conditions.specs.Contract.{Sound, Did};
 ghost use Rattle.model.specs.Access.{unique_bit, Unique, narrow_bit, Narrow};

@@ -1,4 +1,6 @@
 // The accesses, without rows 1 to 8: what each builds over a store, a list and arguments that are already tested.
+#![tactic(auto)]
+
 ghost use Rattle.std.specs.Prelude.{◌≡◌, ◌*◌, ◌<◌, ◌≤◌, length};
 ghost use Rattle.conditions.specs.Contract.{Sound, Did};
 ghost use Rattle.model.specs.Record.{cell_words, data_words};

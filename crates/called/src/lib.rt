@@ -1,4 +1,6 @@
 // The calls of the model by their kind, on lent slices, for the program that runs stored calls.
+#![tactic(auto)]
+
 use stored::{Item, RecordWords, length};
 
 // What a call returned, its out-word, which is 7 before, and the record.

@@ -1,4 +1,6 @@
 // The accesses for C: the record is six words, and every function returns 0 for accepted or the row's number.
+#![tactic(auto)]
+
 ghost use Rattle.std.specs.Prelude.{◌≡◌, []};
 ghost use Rattle.model.specs.Step.{write, read, assert, check, access};
 ghost use Rattle.record_words.specs.Calls.{left, called};

@@ -1,4 +1,6 @@
 // Asserts and checks by a written formula, and the run of a case, for C: the record is six words, and every function returns 0 for accepted or the row's number.
+#![tactic(auto)]
+
 ghost use Rattle.std.specs.Prelude.{◌≡◌};
 ghost use Rattle.formula_calls.specs.Call.{asserting, checking};
 ghost use Rattle.formula_words.specs.Contract.{left_formula, formula_called};

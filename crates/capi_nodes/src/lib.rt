@@ -1,4 +1,6 @@
 // The calls for C that are lent no list, and what is asked of a node: the record is its words, and every function returns 0 for accepted or the row's number.
+#![tactic(auto)]
+
 ghost use Rattle.std.specs.Prelude.{◌≡◌, []};
 ghost use Rattle.model.specs.Step.{ite, node_call};
 ghost use Rattle.model.specs.Step as step;

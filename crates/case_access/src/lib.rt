@@ -1,4 +1,6 @@
 // An access of a case, at its place in the file: the kind byte selects the operation.
+#![tactic(auto)]
+
 ghost use Rattle.std.specs.Prelude.{◌≡◌, true, ◌+◌, ◌*◌, ◌≤◌, length};
 ghost use Rattle.text.specs.Text.{out};
 ghost use Rattle.format.specs.Bytes.{numbers_at};

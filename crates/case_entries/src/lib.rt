@@ -1,4 +1,6 @@
 // A case between two accesses, and the accesses that may enter: a write and an assert, each with its line.
+#![tactic(auto)]
+
 ghost use Rattle.std.specs.Prelude.{◌≡◌, List, ℕ, length};
 ghost use Rattle.text.specs.Text.{out};
 ghost use Rattle.format.specs.declared.Kind.TheVariants as kinds;

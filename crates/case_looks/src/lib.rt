@@ -1,4 +1,6 @@
 // The accesses of a case that enter nothing: a read and a check, each with its line.
+#![tactic(auto)]
+
 ghost use Rattle.std.specs.Prelude.{List, ℕ, ◌≡◌, length, replicate};
 ghost use Rattle.text.specs.Text.{out};
 ghost use Rattle.format.specs.declared.Kind.TheVariants as kinds;

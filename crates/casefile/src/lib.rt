@@ -1,4 +1,6 @@
 // The run of a case file: one call reads its sections and accesses, does and prints them in turn.
+#![tactic(auto)]
+
 ghost use Rattle.std.specs.Prelude.{◌≡◌, ◌≤◌, length};
 ghost use Rattle.cases.specs.Case.{case_of, output_of};
 ghost use Rattle.casefile.specs.Contract.{case_as, output_as};

@@ -1,5 +1,7 @@
 // Runs the stored case files. Standard input has them one after the other, each after an item that says the lengths of what is lent to it and its own.
 // Of each it prints a line: its number; what the call returned and counted; the record; a digest of each buffer, also past what was lent. Then the text, if it was accepted.
+#![tactic(auto)]
+
 use stored::{Item, RecordWords, digest_bytes, digest_words, length, wide};
 
 // What a call returned and counted, and the record.

@@ -1,4 +1,6 @@
 // Check.
+#![tactic(auto)]
+
 ghost use Rattle.std.specs.Prelude.{◌≡◌, ℕ, ◌+◌, ◌*◌, ◌<◌, ◌≤◌, length};
 ghost use Rattle.conditions.specs.Contract.{Sound};
 ghost use Rattle.model.specs.Record.{address_words, cell_words};

@@ -1,4 +1,6 @@
 // What a check and an assert build: a look, compared with data.
+#![tactic(auto)]
+
 ghost use Rattle.std.specs.Prelude.{◌≡◌, ℕ, ◌*◌, ◌<◌, length};
 ghost use Rattle.conditions.specs.Contract.{Sound, Did};
 ghost use Rattle.model.specs.Record.{cell_words};

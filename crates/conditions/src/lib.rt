@@ -1,4 +1,6 @@
 // Conditions: reduced ordered decision diagrams over lent node words, and the operations that build them.
+#![tactic(auto)]
+
 ghost use Rattle.std.specs.Prelude.{◌≡◌, ◌<◌};
 ghost use Rattle.nodes.specs.Standard.{Standard};
 ghost use Rattle.operations.specs.Build.{outcome};

@@ -1,5 +1,7 @@
 // The decision diagrams at their limits. An item of the input is words for a store, a question about words, or a count of nodes with which operations begin;
 // the operations are the items that follow. Each prints a line of numbers.
+#![tactic(auto)]
+
 mod asked;
 mod built;
 

@@ -1,4 +1,6 @@
 // What the nodes of a decision diagram mean: a node's value under an assignment, and the parts of three nodes at their least variable.
+#![tactic(auto)]
+
 ghost use Rattle.std.specs.Prelude.{◌≡◌, ◌+◌, ◌*◌, ◌^◌, ◌<◌, min, length};
 ghost use Rattle.nodes.specs.Words.{child_at};
 ghost use Rattle.nodes.specs.Standard.{Standard};

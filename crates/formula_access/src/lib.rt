@@ -1,4 +1,6 @@
 // Asserts and checks by a written formula.
+#![tactic(auto)]
+
 ghost use Rattle.std.specs.Prelude.{◌≡◌};
 ghost use Rattle.formula_calls.specs.Call.{asserting, checking, answer_by};
 ghost use Rattle.model.specs.Record.{with_count};

@@ -1,1 +1,2 @@
 // The calls of written formulas have definitions and theorems, in specs/ and proofs/, and no code that runs.
+#![tactic(auto)]

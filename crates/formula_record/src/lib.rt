@@ -1,4 +1,6 @@
 // Asserts and checks by a written formula, on the record.
+#![tactic(auto)]
+
 ghost use Rattle.std.specs.Prelude.{◌≡◌};
 ghost use Rattle.formula_calls.specs.Call.{asserting, checking};
 ghost use Rattle.formula_record.specs.Contract.{FormulaAnswersAnyPorts};

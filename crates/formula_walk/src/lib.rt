@@ -1,5 +1,7 @@
 // A written formula is read by three functions that call one another. A first walk over its text counts the predicates that it names; later ones build its conditions, and write the
 // triples of one step each.
+#![tactic(auto)]
+
 ghost use Rattle.std.specs.Prelude.{◌≡◌, ◌+◌, ◌<◌, ◌≤◌, true, length, drop};
 ghost use Rattle.formulas.specs.Language.{formula, conjunction, unit};
 ghost use Rattle.conditions.specs.Contract.{Sound, Did};

@@ -1,4 +1,6 @@
 // A written formula by the record as six words, and what it tells in three out-words.
+#![tactic(auto)]
+
 ghost use Rattle.std.specs.Prelude.{◌≡◌};
 ghost use Rattle.formula_calls.specs.Call.{asserting, checking};
 ghost use Rattle.formula_access.specs.Contract.{answer_of};

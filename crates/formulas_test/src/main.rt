@@ -1,5 +1,7 @@
 // Runs the stored calls of written formulas. An item of the input is a record, words or bytes to put into a buffer, or a call on what they then hold.
 // A line for each call: its number, what it returned, its out-words, the record, and every word that it changed in a buffer, lent or not.
+#![tactic(auto)]
+
 mod calls;
 
 use stored::{Bytes, Item, RecordWords, Words};

@@ -1,4 +1,6 @@
 // Look, over a store, a list and an address that are already tested.
+#![tactic(auto)]
+
 ghost use Rattle.std.specs.Prelude.{◌≡◌, ◌<◌, length, replicate};
 ghost use Rattle.conditions.specs.Contract.{Sound};
 ghost use Rattle.conditions.specs.Build.{for_each};

@@ -1,4 +1,6 @@
 // The accesses that a formula lists, made one after the other, up to the first that is refused.
+#![tactic(auto)]
+
 ghost use Rattle.std.specs.Prelude.{◌≡◌, ℕ, ◌*◌, ◌<◌, ◌≤◌};
 ghost use Rattle.model.specs.Step.{accepted};
 ghost use Rattle.formula_calls.specs.Call.{asserting, checking, access_by, predicate_words};

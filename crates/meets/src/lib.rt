@@ -1,4 +1,6 @@
 // Whether some assignment makes nodes false together, or true together, found without making nodes: the tests of rows 6 and 7.
+#![tactic(auto)]
+
 ghost use Rattle.std.specs.Prelude.{◌≡◌, ◌<◌};
 ghost use Rattle.nodes.specs.Standard.{Standard};
 ghost use Rattle.meets.specs.Meet.{judge_of, meets, Settles, Asks, neither, together, noted_in, with_note, judge_noted, NotesHold};

@@ -1,4 +1,6 @@
 // Reads a case file from standard input, and prints its text, or the one line of its refusal. A fault of the system is no verdict: it is told on standard error.
+#![tactic(auto)]
+
 ghost use Rattle.std.specs.Prelude.{◌≤◌, length};
 ghost use Rattle.memcase.specs.Input.{Within};
 

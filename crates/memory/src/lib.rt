@@ -1,4 +1,6 @@
 // The calls, as methods on the record: each hands its fields on to the crate below that does it, and says its answer.
+#![tactic(auto)]
+
 ghost use Rattle.std.specs.Prelude.{◌≡◌, length};
 ghost use Rattle.conditions.specs.Contract.{Sound};
 ghost use Rattle.model.specs.Record.{address_words, cell_words, data_words};

@@ -1,4 +1,6 @@
 // What the halves of a word become, and what an entry makes of the word of a look, over a store and words that are already tested.
+#![tactic(auto)]
+
 ghost use Rattle.std.specs.Prelude.{◌≡◌, ◌+◌, ◌<◌, ◌≤◌, length};
 ghost use Rattle.conditions.specs.Contract.{Sound, Did};
 ghost use Rattle.model.specs.Record.{cell_words, size};

@@ -1,4 +1,6 @@
 // The record of a memory, and the node numbers of the three domains. What the calls make of it stands in specs/ and proofs/; no code runs here.
+#![tactic(auto)]
+
 use semantics::Sizes;
 
 // "The record has n, w, node count, entry count, assert condition, check condition."

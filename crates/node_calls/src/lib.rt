@@ -1,4 +1,6 @@
 // The calls that are lent no list: Fresh, evaluate, variable, Ite.
+#![tactic(auto)]
+
 ghost use Rattle.std.specs.Prelude.{◌≡◌};
 ghost use Rattle.model.specs.Rows.{first_row, variable_rows, ite_rows, evaluate_rows};
 ghost use Rattle.model.specs.Step.{node, valued, variable, ite, evaluate, fresh_rows, fresh};

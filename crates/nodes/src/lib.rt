@@ -1,4 +1,6 @@
 // The words of decision diagrams: three words a node, in a lent slice. What stands in them, and what standard form asks of them.
+#![tactic(auto)]
+
 ghost use Rattle.std.specs.Prelude.{◌≡◌, ℕ, ◌+◌, ◌*◌, ◌<◌, ◌≤◌, min, ◌/◌, length};
 ghost use Rattle.nodes.specs.Words.{var_at, low_at, high_at, has_words, with_node, with_terminals};
 ghost use Rattle.nodes.specs.Clear.{clear_of};

@@ -1,4 +1,5 @@
 // The operations that build conditions: the store that they build in. What each leaves and means stands in specs/ and proofs/; no code runs here.
+#![tactic(auto)]
 
 // How many nodes there are, and whether a node was needed past the capacity. Once full, nothing is built any more.
 #[derive(Clone, Copy)]

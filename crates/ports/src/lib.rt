@@ -1,4 +1,6 @@
 // The read ports: what they hold, tested, made anew, and replaced.
+#![tactic(auto)]
+
 ghost use Rattle.std.specs.Prelude.{◌≡◌, ℕ, ◌+◌, ◌<◌, ◌≤◌, length, get_or};
 ghost use Rattle.nodes.specs.Search.{every};
 ghost use Rattle.conditions.specs.Stores.{Standard};

@@ -1,4 +1,6 @@
 // A written formula before its accesses: read, its conditions built, and its triples written into the answer.
+#![tactic(auto)]
+
 ghost use Rattle.std.specs.Prelude.{◌≡◌, ℕ};
 ghost use Rattle.preparing.specs.Contract.{MayList, ListedAs, Prepares, PreparedAs};
 

@@ -1,4 +1,6 @@
 // The lines of text that a case prints.
+#![tactic(auto)]
+
 ghost use Rattle.std.specs.Prelude.{◌≡◌, ℕ, ◌+◌, ◌*◌, ◌/◌, ◌<◌, ◌≤◌, length, get_or};
 ghost use Rattle.text.specs.Text.{out, appended};
 ghost use Rattle.nodes.specs.Standard.{Standard};

@@ -1,4 +1,6 @@
 // Row 1: n and w in their ranges; and how many words an address, a cell and an access's data have.
+#![tactic(auto)]
+
 ghost use Rattle.std.specs.Prelude.{◌≡◌, [], ◌*◌};
 ghost use Rattle.semantics.specs.Sizes.{cell_bits, data_bits};
 ghost use Rattle.model.specs.Record.{size};

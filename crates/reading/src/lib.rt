@@ -1,4 +1,6 @@
 // What is read of a case file, from its bytes: numbers, the sections before the accesses, and each access in its place. No access is done here.
+#![tactic(auto)]
+
 mod accesses;
 mod bytes;
 mod kinds;

@@ -1,4 +1,6 @@
 // The record of a memory as its words.
+#![tactic(auto)]
+
 ghost use Rattle.std.specs.Prelude.{◌≡◌};
 ghost use Rattle.record_words.specs.Words.{record_in, words_of};
 

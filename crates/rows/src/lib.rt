@@ -1,4 +1,6 @@
 // The record as the calls work on it: the rows of the table that tests before building meet, the list, and refusals after building.
+#![tactic(auto)]
+
 ghost use Rattle.std.specs.Prelude.{◌≡◌, Bool, [], ◌∷◌, ℕ, ◌*◌, ◌≤◌, length};
 ghost use Rattle.conditions.specs.Stores.{Standard};
 ghost use Rattle.model.specs.Record.{address_words, cell_words, list_capacity, appended};

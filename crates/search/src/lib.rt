@@ -1,4 +1,5 @@
 // The node search of Make: its answer. What it is and what is true of it stands in specs/ and proofs/; no code runs here.
+#![tactic(auto)]
 
 // The node at which the search ended, or that there is none.
 #[derive(Clone, Copy)]

@@ -1,4 +1,6 @@
 // The node search of Make, from the larger child up. It passes over four nodes in a step, where none of them has the two children.
+#![tactic(auto)]
+
 ghost use Rattle.std.specs.Prelude.{◌≡◌, true, ◌+◌, ◌*◌, ◌<◌, ◌≤◌, max, length};
 ghost use Rattle.search.specs.Search.{Search};
 ghost use Rattle.searching.specs.Children.{pair_of, children_at, one_of, Passed};

@@ -1,4 +1,5 @@
 // What the panel's memory means under one assignment, where each condition is its value: its sizes. What is said of them stands in specs/ and proofs/; no code runs here.
+#![tactic(auto)]
 
 // A memory of n address bits and w data bits.
 #[derive(Clone, Copy)]

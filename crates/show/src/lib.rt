@@ -1,4 +1,6 @@
 // A condition's text.
+#![tactic(auto)]
+
 ghost use Rattle.std.specs.Prelude.{◌≡◌, ◌<◌};
 ghost use Rattle.text.specs.Text.{out, appended};
 ghost use Rattle.nodes.specs.Standard.{Standard};

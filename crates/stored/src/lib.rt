@@ -1,4 +1,6 @@
 // The stored inputs of the test programs: items of eight numbers, each of four bytes, low byte first; and what they print.
+#![tactic(auto)]
+
 mod changes;
 mod digest;
 

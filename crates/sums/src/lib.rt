@@ -1,4 +1,6 @@
 // A constant added to an address: what `unit_programs` has as the program Add, over lent words.
+#![tactic(auto)]
+
 ghost use Rattle.std.specs.Prelude.{◌≡◌, ◌++◌, ◌+◌, ◌*◌, ◌/◌, ◌%◌, ◌^◌, ◌<◌, ◌≤◌, eqb, length, set, take};
 ghost use Rattle.conditions.specs.Contract.{Sound, Did};
 ghost use Rattle.units.specs.Sum.{bits_of};

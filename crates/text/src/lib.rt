@@ -1,4 +1,6 @@
 // A text that grows in a lent buffer. It stops at the first byte that does not fit.
+#![tactic(auto)]
+
 ghost use Rattle.std.specs.Prelude.{◌≡◌, [], ◌∷◌};
 ghost use Rattle.text.specs.Text.{out, appended};
 ghost use Rattle.text.specs.Decimal.{decimal};

@@ -1,4 +1,6 @@
 // A text at its limits: no room, one byte too little, just enough, more than enough, and texts that begin elsewhere or are full.
+#![tactic(auto)]
+
 ghost use Rattle.std.specs.Prelude.{◌≡◌, ◌∷◌, ◌≤◌, take, replicate};
 ghost use Rattle.text.specs.Text.{out, appended};
 ghost use Rattle.text.specs.Decimal.{decimal};

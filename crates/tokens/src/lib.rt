@@ -1,4 +1,6 @@
 // Tokens of a written formula, each with the spaces behind it. A number and an opener are judged as they are read.
+#![tactic(auto)]
+
 ghost use Rattle.std.specs.Prelude.{◌≡◌, Bool, true, ℕ, suc, ◌+◌, ◌<◌, ◌≤◌, min, T, length, get_or, drop};
 ghost use Rattle.formulas.specs.Language as language;
 ghost use Rattle.formulas.specs.Reading as reading;

@@ -1,4 +1,6 @@
 // Write.
+#![tactic(auto)]
+
 ghost use Rattle.std.specs.Prelude.{◌≡◌, false, ◌*◌, ◌≤◌, length};
 ghost use Rattle.conditions.specs.Stores.{Standard};
 ghost use Rattle.conditions.specs.Contract.{Sound};

@@ -1,4 +1,6 @@
 // Zeros over a whole slice.
+#![tactic(auto)]
+
 ghost use Rattle.std.specs.Prelude.{◌≡◌};
 ghost use Rattle.cases.specs.Case.{zeroed};
 

@@ -1,0 +1,27 @@
+use mathlib.Core.Path.{◌≡◌}
+use mathlib.Core.List.{List}
+use Prim.Native.Nat.{ℕ, ◌+◌, ◌*◌, ◌-◌}
+use lib.ListN.{length}
+use Rattle.formula_walk.specs.declared.Walk.{Walk}
+use Rattle.formula_walk.proofs.JoinLaws.{Joining, left_to}
+use Rattle.formula_walk.proofs.+conjunction_formula_unit.Given as goal
+
+-- three calls for each byte that is left, and the part's rank
+abbrev pub decreases-conjunction : goal.decreases-conjunction
+decreases-conjunction l = 3 * (length l.text.now - l.x.at) + 1
+
+-- however far the conjunction had come behind its first unit, it has come as far behind this one
+abbrev pub invariant-conjunction-loop-g : goal.invariant-conjunction-loop-g
+invariant-conjunction-loop-g l =
+    (length l.words ≡ length l.initial.words) × (length l.out ≡ length l.initial.out)
+    × ((w out' : List ℕ) (x : Walk) → Joining l.g l.o l.text w out' x l.initial.words l.initial.table l.initial.out l.initial.y → Joining l.g l.o l.text w out' x l.words l.table l.out l.y)
+
+abbrev pub decreases-conjunction-loop-g : goal.decreases-conjunction-loop-g
+decreases-conjunction-loop-g l =
+    left_to l.text l.y.row l.y.at
+
+abbrev pub decreases-formula : goal.decreases-formula
+decreases-formula l = 3 * (length l.text.now - l.x.at) + 2
+
+abbrev pub decreases-unit : goal.decreases-unit
+decreases-unit l = 3 * (length l.text.now - l.x.at)

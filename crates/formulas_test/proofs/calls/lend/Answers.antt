@@ -1,0 +1,12 @@
+use native.Mathlib.Omega.{arith}
+use lib.ListN.{length-take}
+use Rattle.formulas_test.proofs.calls.lend.Goals as goal
+
+pub slice_bounds-given-end-2 : goal.slice_bounds-given-end-2
+slice_bounds-given-end-2 c = simp length-take (omega arith)
+
+pub slice_bounds-given-end-4 : goal.slice_bounds-given-end-4
+slice_bounds-given-end-4 c = simp length-take (omega arith)
+
+pub slice_bounds-given-end-6 : goal.slice_bounds-given-end-6
+slice_bounds-given-end-6 c = simp length-take (omega arith)
