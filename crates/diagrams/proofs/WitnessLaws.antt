@@ -1,5 +1,5 @@
 -- The way down ends at true, and its number is what the loop adds up.
-use mathlib.Core.Path.{◌≡◌, refl, sym, ◌∙◌, fun_ext}
+use mathlib.Core.Path.{◌≡◌, refl, sym, ◌∙◌, fun_ext, subst}
 use mathlib.Core.Bool.{Bool, true, false, cond, true≢false}
 use mathlib.Core.List.{List}
 use mathlib.Core.Logic.{◌⊎◌, inl, inr}
@@ -45,8 +45,12 @@ path-holds (branch v l h) u r e = go (is_false l) refl (is_false h) refl (path-h
     go : (b : Bool) → is_false l ≡ b → (d : Bool) → is_false h ≡ d → (is_false l ≡ false → eval (path l) l ≡ true) → (is_false h ≡ false → eval (path h) h ≡ true)
         → eval (path (branch v l h)) (branch v l h) ≡ true
     go true p true q il ih = absurd (r.3 (false-leaf l p ∙ sym (false-leaf h q)))
-    go true p false q il ih = rw (p, change-same (path h) v true) (eval-change h v r.2 (path h) true ∙ ih q)
-    go false p d q il ih = rw (p, path-below l (suc v) r.1 v (omega arith)) (il p)
+    go true p false q il ih =
+        let e : path (branch v l h) ≡ change (path h) v true = rw p in
+        subst (λ (φ : ℕ → Bool). eval φ (branch v l h) ≡ true) (sym e) (rw (change-same (path h) v true) (eval-change h v r.2 (path h) true ∙ ih q))
+    go false p d q il ih =
+        let e : path (branch v l h) ≡ path l = rw p in
+        subst (λ (φ : ℕ → Bool). eval φ (branch v l h) ≡ true) (sym e) (rw (path-below l (suc v) r.1 v (omega arith)) (il p))
 
 change_suc : (φ : ℕ → Bool) (v u : ℕ) → change φ (suc v) true (suc u) ≡ change (λ u. φ (suc u)) v true u
 change_suc φ v u = go (ℕ_discrete u v)

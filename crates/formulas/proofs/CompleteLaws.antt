@@ -40,6 +40,7 @@ spaces_stay p r at_and = refl
 
 true_of : (b : Bool) → T b → b ≡ true
 true_of true h = refl
+true_of false h = elim h [ ]
 
 -- nothing that could stand behind a number's spaces is a digit
 after-plain : (p : Part) (r : List ℕ) → After p r → Plain r

@@ -19,12 +19,15 @@ use Rattle.formulas.proofs.FaultLaws.{fault-place}
 
 pub and_left : (a b : Bool) → T (a && b) → T a
 and_left true b h = tt
+and_left false b h = elim h [ ]
 
 pub and_right : (a b : Bool) → T (a && b) → T b
 and_right true b h = h
+and_right false b h = elim h [ ]
 
 pub and_both : (a b : Bool) → T a → T b → T (a && b)
 and_both true b h g = g
+and_both false b h g = elim h [ ]
 
 -- two readers side by side
 byte-both : (c : ℕ) (s : List ℕ) (f : List ℕ → Answer) (a : Answer) (g : List ℕ → Verdict) (v : Verdict) (R : List ℕ → Answer → Verdict → Type 0)

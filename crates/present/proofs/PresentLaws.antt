@@ -7,7 +7,7 @@ use native.Mathlib.Omega.{arith}
 use native.Mathlib.Decide.{dec_lt, ℕ_discrete}
 use Rattle.nodes.specs.Words.{var_at, low_at, high_at, child_at}
 use Rattle.nodes.specs.Standard.{Standard}
-use Rattle.nodes.proofs.WordsLaws.{has_words}
+use Rattle.nodes.proofs.WordsLaws.{has_words_lem}
 use Rattle.nodes.proofs.GrowthLaws.{inner}
 use Rattle.diagrams.specs.Value.{value}
 use Rattle.diagrams.specs.Assignment.{number_of, change}
@@ -87,7 +87,7 @@ make_parts : (w : List ℕ) (s : Store) (v r : ℕ) → Standard w s.count → s
 make_parts w s v r S free small l = go (ℕ_discrete (var_at w r) v)
   where
     go : Dec (var_at w r ≡ v) → Make v (part_of false w v r) (part_of true w v r) w s ≡ pure r w s
-    go (yes e) = rw (part_hit false w v r e, part_hit true w v r e) (make_has s (low_at w r) (high_at w r) S small free r l (has_words w v (low_at w r) (high_at w r) r (record { var = e; low = refl; high = refl })))
+    go (yes e) = rw (part_hit false w v r e, part_hit true w v r e) (make_has s (low_at w r) (high_at w r) S small free r l (has_words_lem w v (low_at w r) (high_at w r) r (record { var = e; low = refl; high = refl })))
     go (no q) = rw (part_miss false w v r q, part_miss true w v r q) (make_same w s v r r free refl)
 
 -- where the three numbers add up to less than t

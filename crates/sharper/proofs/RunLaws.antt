@@ -62,6 +62,23 @@ module _ (z : Sizes) (s t : Held) (H : NarrowerHeld z s t) where
             };
         bits = λ i h b y. y;
       }
+  access_narrower (writes c a d) (reads p' e' a') x6 q q' = elim x6 [ ]
+  access_narrower (writes c a d) (asserts b' a' d') x7 q q' = elim x7 [ ]
+  access_narrower (writes c a d) (checks b' a' d') x8 q q' = elim x8 [ ]
+  access_narrower (writes c a d) nothing x9 q q' = elim x9 [ ]
+  access_narrower (reads p e a) (writes c' a' d') x5 q q' = elim x5 [ ]
+  access_narrower (reads p e a) (asserts b' a' d') x6 q q' = elim x6 [ ]
+  access_narrower (reads p e a) (checks b' a' d') x7 q q' = elim x7 [ ]
+  access_narrower (reads p e a) nothing x8 q q' = elim x8 [ ]
+  access_narrower (asserts b a d) (writes c' a' d') x6 q q' = elim x6 [ ]
+  access_narrower (asserts b a d) (reads p' e' a') x7 q q' = elim x7 [ ]
+  access_narrower (asserts b a d) (checks b' a' d') x8 q q' = elim x8 [ ]
+  access_narrower (asserts b a d) nothing x9 q q' = elim x9 [ ]
+  access_narrower (checks b a d) (writes c' a' d') x7 q q' = elim x7 [ ]
+  access_narrower (checks b a d) (reads p' e' a') x8 q q' = elim x8 [ ]
+  access_narrower (checks b a d) (asserts b' a' d') x9 q q' = elim x9 [ ]
+  access_narrower (checks b a d) nothing x10 q q' = elim x10 [ ]
+  access_narrower nothing f x7 q q' = elim x7 [ ]
 
 pub one-access : OneAccess
 unfolding OneAccess

@@ -7,32 +7,32 @@ use Rattle.conditions.proofs.+ite.Goals as goal
 
 pub known-p-requires : goal.known-p-requires
 known-p-requires t c =
-    let p = c.requires.1 in
+    let p = c.requires in
     let m = p.0.standard.most in
     omega arith
 
 pub divide-d-requires : goal.divide-d-requires
 divide-d-requires t c =
-    let p = c.requires.1 in
+    let p = c.requires in
     let m = p.0.standard.room in
     omega arith
 
 pub ite-x-requires : goal.ite-x-requires
 ite-x-requires t c =
     let a = c.args in
-    let p = c.requires.1 in
+    let p = c.requires in
     let R = sound-ready p.0 p.1 p.2 p.3 in
     let e = known_split a.table.now a.f a.g a.h a.s.full (sym c.known-p.ensures ∙ c.in-Split.is) in
     let d = c.divide-d.result in
     let ed = c.divide-d.ensures in
     let q = split_low a.words.now a.s a.f a.g a.h d R e ed in
     let r = q.1 in
-    (omega (arith, q.0, c.requires.0), (p.0, omega (arith, r.first, r.second, r.third), omega (arith, r.first, r.second, r.third), omega (arith, r.first, r.second, r.third)))
+    (omega (arith, q.0, c.decreases), (p.0, omega (arith, r.first, r.second, r.third), omega (arith, r.first, r.second, r.third), omega (arith, r.first, r.second, r.third)))
 
 pub ite-y-requires : goal.ite-y-requires
 ite-y-requires t c =
     let a = c.args in
-    let p = c.requires.1 in
+    let p = c.requires in
     let R = sound-ready p.0 p.1 p.2 p.3 in
     let e = known_split a.table.now a.f a.g a.h a.s.full (sym c.known-p.ensures ∙ c.in-Split.is) in
     let d = c.divide-d.result in
@@ -40,12 +40,12 @@ ite-y-requires t c =
     let q = split-high a.words.now a.s a.f a.g a.h d R e ed in
     let r = q.1 in
     let x = c.ite-x.ensures in
-    (omega (arith, q.0, c.requires.0), (x.sound, omega (arith, r.first, r.second, r.third, x.more), omega (arith, r.first, r.second, r.third, x.more), omega (arith, r.first, r.second, r.third, x.more)))
+    (omega (arith, q.0, c.decreases), (x.sound, omega (arith, r.first, r.second, r.third, x.more), omega (arith, r.first, r.second, r.third, x.more), omega (arith, r.first, r.second, r.third, x.more)))
 
 pub make_near-z-requires : goal.make_near-z-requires
 make_near-z-requires t c =
     let a = c.args in
-    let p = c.requires.1 in
+    let p = c.requires in
     let R = sound-ready p.0 p.1 p.2 p.3 in
     let e = known_split a.table.now a.f a.g a.h a.s.full (sym c.known-p.ensures ∙ c.in-Split.is) in
     let d = c.divide-d.result in
@@ -57,7 +57,7 @@ make_near-z-requires t c =
 pub remember-requires : goal.remember-requires
 remember-requires t c =
     let a = c.args in
-    let p = c.requires.1 in
+    let p = c.requires in
     let R = sound-ready p.0 p.1 p.2 p.3 in
     let e = known_split a.table.now a.f a.g a.h a.s.full (sym c.known-p.ensures ∙ c.in-Split.is) in
     let d = c.divide-d.result in
@@ -69,7 +69,7 @@ remember-requires t c =
 pub returns-in-Done : goal.returns-in-Done
 returns-in-Done t c =
     let a = c.args in
-    let p = c.requires.1 in
+    let p = c.requires in
     let R = sound-ready p.0 p.1 p.2 p.3 in
     did (ready-builds R) (known-done a.table.now a.words.now a.s a.f a.g a.h _ R p.0.table (sym c.known-p.ensures ∙ c.in-Done.is)) p.0.table
 
@@ -79,7 +79,7 @@ shape_of-words t c = c.make_near-z.auto.words ∙ c.ite-y.auto.words ∙ c.ite-x
 pub returns-in-Split : goal.returns-in-Split
 returns-in-Split t c =
     let a = c.args in
-    let p = c.requires.1 in
+    let p = c.requires in
     let R = sound-ready p.0 p.1 p.2 p.3 in
     let e = known_split a.table.now a.f a.g a.h a.s.full (sym c.known-p.ensures ∙ c.in-Split.is) in
     let d = c.divide-d.result in

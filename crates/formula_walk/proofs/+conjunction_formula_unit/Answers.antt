@@ -9,7 +9,7 @@ use Rattle.formula_walk.proofs.JoinLaws.{joining_unit, joins_is, joining-more, j
 use Rattle.formula_walk.proofs.+conjunction_formula_unit.Goals as goal
 
 pub conjunction-unit-y-requires : goal.conjunction-unit-y-requires
-conjunction-unit-y-requires t c = (omega (arith, c.requires.0), c.requires.1)
+conjunction-unit-y-requires t c = (omega (arith, c.decreases), c.requires)
 
 pub conjunction-loop-g-init : goal.conjunction-loop-g-init
 conjunction-loop-g-init t c = (refl, refl, λ w out x J. J)
@@ -21,15 +21,15 @@ conjunction-behind-z-requires t c =
 
 pub conjunction-unit-y-requires-in-loop-g : goal.conjunction-unit-y-requires-in-loop-g
 conjunction-unit-y-requires-in-loop-g t c =
-    let J = c.loop-g.invariant.2 c.args.words.now c.args.out.now c.args.x (joining_unit c.requires.1 c.unit-y.ensures) in
+    let J = c.loop-g.invariant.2 c.args.words.now c.args.out.now c.args.x (joining_unit c.requires c.unit-y.ensures) in
     let e = sym c.joined.ensures ∙ c.loop-g-test.true in
     let j = joins_is c.args.text.now c.loop-g.y e in
     let h = starts_in c.args.text.now c.loop-g.y.at 38 j.1 in
-    (omega (arith, c.requires.0, J.later j.0, behind_later h c.behind-z.ensures), walks_behind (J.walks j.0) h c.behind-z.ensures)
+    (omega (arith, c.decreases, J.later j.0, behind_later h c.behind-z.ensures), walks_behind (J.walks j.0) h c.behind-z.ensures)
 
 pub conjunction-loop-g-smaller : goal.conjunction-loop-g-smaller
 conjunction-loop-g-smaller t c =
-    let J = c.loop-g.invariant.2 c.args.words.now c.args.out.now c.args.x (joining_unit c.requires.1 c.unit-y.ensures) in
+    let J = c.loop-g.invariant.2 c.args.words.now c.args.out.now c.args.x (joining_unit c.requires c.unit-y.ensures) in
     let e = sym c.joined.ensures ∙ c.loop-g-test.true in
     joins_less (J.walks (joins_is c.args.text.now c.loop-g.y e).0) e c.behind-z.ensures c.unit-y-in-loop-g.ensures
 
@@ -46,21 +46,21 @@ conjunction-shape_of-out t c = c.loop-g.invariant.1 ∙ c.unit-y.auto.out
 
 pub conjunction-returns : goal.conjunction-returns
 conjunction-returns t c =
-    let J = c.loop-g.invariant.2 c.args.words.now c.args.out.now c.args.x (joining_unit c.requires.1 c.unit-y.ensures) in
+    let J = c.loop-g.invariant.2 c.args.words.now c.args.out.now c.args.x (joining_unit c.requires c.unit-y.ensures) in
     joining-ends J (sym c.joined.ensures ∙ c.loop-g-test.false)
 
 pub formula-begin_formula-b-requires : goal.formula-begin_formula-b-requires
-formula-begin_formula-b-requires t c = c.requires.1
+formula-begin_formula-b-requires t c = c.requires
 
 pub formula-conjunction-requires : goal.formula-conjunction-requires
 formula-conjunction-requires t c =
     let A = rw c.in-Missing.is at c.begin_formula-b.ensures in
-    (omega (arith, c.requires.0), A.0)
+    (omega (arith, c.decreases), A.0)
 
 pub formula-formula-requires : goal.formula-formula-requires
 formula-formula-requires t c =
     let A = rw c.in-Inside.is at c.begin_formula-b.ensures in
-    (omega (arith, c.requires.0, A.1, A.0.begins.within), A.0)
+    (omega (arith, c.decreases, A.1, A.0.begins.within), A.0)
 
 pub formula-shape_of-words-in-Missing : goal.formula-shape_of-words-in-Missing
 formula-shape_of-words-in-Missing t c = c.conjunction.auto.words ∙ c.begin_formula-b.auto.words
@@ -93,19 +93,19 @@ formula-returns-in-Inside t c =
     A.2 c.args.out.now c.formula.new.words c.formula.new.table c.formula.new.out c.formula.result c.formula.ensures
 
 pub unit-begin_unit-b-requires : goal.unit-begin_unit-b-requires
-unit-begin_unit-b-requires t c = c.requires.1.begins
+unit-begin_unit-b-requires t c = c.requires.begins
 
 pub unit-unit-requires : goal.unit-unit-requires
 unit-unit-requires t c =
     let B = rw c.in-Next.is at c.begin_unit-b.ensures in
-    let W = B.2 c.args.words.now c.args.table.now c.requires.1 in
-    (omega (arith, c.requires.0, B.1, W.0.begins.within), W.0)
+    let W = B.2 c.args.words.now c.args.table.now c.requires in
+    (omega (arith, c.decreases, B.1, W.0.begins.within), W.0)
 
 pub unit-formula-requires : goal.unit-formula-requires
 unit-formula-requires t c =
     let B = rw c.in-Group.is at c.begin_unit-b.ensures in
-    let W = B.2 c.args.words.now c.args.table.now c.requires.1 in
-    (omega (arith, c.requires.0, B.1, W.0.begins.within), W.0)
+    let W = B.2 c.args.words.now c.args.table.now c.requires in
+    (omega (arith, c.decreases, B.1, W.0.begins.within), W.0)
 
 pub unit-close-requires : goal.unit-close-requires
 unit-close-requires t c = c.formula.ensures.within
@@ -116,7 +116,7 @@ unit-shape_of-out-in-Done t c = c.begin_unit-b.auto.out
 pub unit-returns-in-Done : goal.unit-returns-in-Done
 unit-returns-in-Done t c =
     let B = rw c.in-Done.is at c.begin_unit-b.ensures in
-    B c.args.words.now c.args.table.now c.requires.1
+    B c.args.words.now c.args.table.now c.requires
 
 pub unit-shape_of-words-in-Next : goal.unit-shape_of-words-in-Next
 unit-shape_of-words-in-Next t c = c.unit.auto.words
@@ -127,7 +127,7 @@ unit-shape_of-out-in-Next t c = c.unit.auto.out ∙ c.begin_unit-b.auto.out
 pub unit-returns-in-Next : goal.unit-returns-in-Next
 unit-returns-in-Next t c =
     let B = rw c.in-Next.is at c.begin_unit-b.ensures in
-    let W = B.2 c.args.words.now c.args.table.now c.requires.1 in
+    let W = B.2 c.args.words.now c.args.table.now c.requires in
     let G = subst (λ (out : List ℕ). Goes c.args.g c.in-Next.is unit-part c.args.text.now c.args.words.now out c.in-Next.is c.unit.new.words c.unit.new.table c.unit.new.out c.unit.result) B.0 c.unit.ensures in
     W.1 c.unit.new.words c.unit.new.table c.unit.new.out c.unit.result G
 
@@ -140,6 +140,6 @@ unit-shape_of-out-in-Group t c = c.formula.auto.out ∙ c.begin_unit-b.auto.out
 pub unit-returns-in-Group : goal.unit-returns-in-Group
 unit-returns-in-Group t c =
     let B = rw c.in-Group.is at c.begin_unit-b.ensures in
-    let W = B.2 c.args.words.now c.args.table.now c.requires.1 in
+    let W = B.2 c.args.words.now c.args.table.now c.requires in
     let G = subst (λ (out : List ℕ). Goes c.args.g c.in-Group.is formula-part c.args.text.now c.args.words.now out c.in-Group.is c.formula.new.words c.formula.new.table c.formula.new.out c.formula.result) B.0 c.formula.ensures in
     W.1 c.formula.new.words c.formula.new.table c.formula.new.out c.formula.result c.close.result G c.close.ensures

@@ -1,0 +1,7 @@
+use Rattle.model.specs.Rows.{row1}
+use mathlib.Core.Path.{refl}
+use Rattle.ranges.proofs.in_range.Goals as goal
+
+pub returns : goal.returns
+unfolding row1
+returns c = refl
