@@ -1,1 +1,1 @@
-pub mod MemoryLaws
+pub mod NameLaws

@@ -102,6 +102,18 @@ module _ (φ : ℕ → Bool) {s t u : State} (K : Keeps s t) (L : Keeps s u) whe
   argument-sharper (check b a d) (check b' a' d') (of-check N fa nd) =
       subst₂ (λ (x : Bool) (y : List Pair). SharperAccess (argument φ t (check b a d)) (checks x (pairs φ u.words a' (address_bits u.rec.sizes)) y)) (sym (named-same b N)) (sym (words_same cell_bits d nd))
       (sharper.check (words-sharper address_bits a a' fa))
+  argument-sharper (write c a d) (read p' e' a' out') x'' = elim x'' [ ]
+  argument-sharper (write c a d) (assert b' a' d') x3 = elim x3 [ ]
+  argument-sharper (write c a d) (check b' a' d') x4 = elim x4 [ ]
+  argument-sharper (read p e a out) (write c' a' d') x3 = elim x3 [ ]
+  argument-sharper (read p e a out) (assert b' a' d') x4 = elim x4 [ ]
+  argument-sharper (read p e a out) (check b' a' d') x5 = elim x5 [ ]
+  argument-sharper (assert b a d) (write c' a' d') x4 = elim x4 [ ]
+  argument-sharper (assert b a d) (read p' e' a' out') x5 = elim x5 [ ]
+  argument-sharper (assert b a d) (check b' a' d') x6 = elim x6 [ ]
+  argument-sharper (check b a d) (write c' a' d') x5 = elim x5 [ ]
+  argument-sharper (check b a d) (read p' e' a' out') x6 = elim x6 [ ]
+  argument-sharper (check b a d) (assert b' a' d') x7 = elim x7 [ ]
 
 -- the event of an accepted access
 accepted-event : (φ : ℕ → Bool) (t : State) (c : Access) (x : Answer) → is_refused x ≡ false → event φ t (access c) x ≡ argument φ t c
@@ -119,6 +131,12 @@ module _ (φ : ℕ → Bool) {s : State} where
   calls-sharper t u K L (access c ∷ cs) (access d ∷ ds) (then R Rs) A B =
       both (access-sharper t u K L c d R (step (access c) t).answer (step (access d) u).answer A.0 B.0)
       (calls-sharper (step (access c) t).after (step (access d) u).after (keeps-step t c A.0 K) (keeps-step u d B.0 L) cs ds Rs A.1 B.1)
+  calls-sharper t u K L [] (_ ∷ ds) x9 A B = elim x9 [ ]
+  calls-sharper t u K L (access c ∷ cs) [] x9 A B = elim x9 [ ]
+  calls-sharper t u K L (access c ∷ cs) (Rattle.model.specs.Step.node_call _ ∷ ds) x13 A B = elim x13 [ ]
+  calls-sharper t u K L (access c ∷ cs) (Rattle.model.specs.Step.upkeep x13 ∷ ds) _ A B = elim x13 [ ]
+  calls-sharper t u K L (Rattle.model.specs.Step.node_call _ ∷ cs) ds x10 A B = elim x10 [ ]
+  calls-sharper t u K L (Rattle.model.specs.Step.upkeep x10 ∷ cs) ds _ A B = elim x10 [ ]
 
 pub replaced-sharper : (φ : ℕ → Bool) (s t : State) → t.rec ≡ s.rec → t.words ≡ s.words → (cs ds : List Call) → ReplacedCalls s cs ds → AllAccepted cs s → AllAccepted ds t → SharperList (events φ s cs) (events φ t ds)
 replaced-sharper φ s t er ew cs ds R A B = calls-sharper φ s t (keeps-first s s refl refl) (keeps-first s t er ew) cs ds R A B
@@ -127,6 +145,12 @@ replaced-sharper φ s t er ew cs ds R A B = calls-sharper φ s t (keeps-first s 
 replaced-accesses : {s : State} (cs ds : List Call) → ReplacedCalls s cs ds → AllAccesses cs × AllAccesses ds
 replaced-accesses [] [] replaced.end = (tt, tt)
 replaced-accesses (access c ∷ cs) (access d ∷ ds) (then R Rs) = let A = replaced-accesses cs ds Rs in ((tt, A.0), (tt, A.1))
+replaced-accesses {s = s} [] (_ ∷ ds) x3 = elim x3 [ ]
+replaced-accesses {s = s} (access c ∷ cs) [] x5 = elim x5 [ ]
+replaced-accesses {s = s} (access c ∷ cs) (Rattle.model.specs.Step.node_call _ ∷ ds) x9 = elim x9 [ ]
+replaced-accesses {s = s} (access c ∷ cs) (Rattle.model.specs.Step.upkeep x9 ∷ ds) _ = elim x9 [ ]
+replaced-accesses {s = s} (Rattle.model.specs.Step.node_call _ ∷ cs) ds x6 = elim x6 [ ]
+replaced-accesses {s = s} (Rattle.model.specs.Step.upkeep x6 ∷ cs) ds _ = elim x6 [ ]
 
 pub replacing : Replacing
 unfolding Replacing Sharpening

@@ -8,13 +8,13 @@ use mathlib.Core.Path.{refl}
 use Rattle.case_looks.proofs.do_check.Goals as goal
 
 pub check_on-r-requires : goal.check_on-r-requires
-check_on-r-requires c = let L = check_cut c.args.c.memory.fields.sizes c.args.ops.now c.ends_of-e.result c.ends_of-e.ensures.0 c.requires.1 in (c.requires.0.valid, c.requires.0.sound, L.1, L.2)
+check_on-r-requires c = let L = check_cut c.args.c.memory.fields.sizes c.args.ops.now c.ends_of-e.result c.ends_of-e.ensures.value c.requires.1 in (c.requires.0.valid, c.requires.0.sound, L.1, L.2)
 
 pub put_check-t-requires : goal.put_check-t-requires
 put_check-t-requires c = checked-below _ c.requires.0.valid (c.check_on-r.ensures.is [])
 
 pub returns-in-Accepted : goal.returns-in-Accepted
-returns-in-Accepted c = λ ps. rw (check-told c.args.c.memory.fields.sizes c.args.ops.now c.ends_of-e.result 0 c.ends_of-e.ensures.0) (step_on _ (valid_ported c.args.c.memory c.args.words.now c.args.list.now ps c.requires.0.valid) (any_as check_answer c.in-Accepted.is c.check_on-r.ensures ps) c.args.c.at (out c.args.buf.now c.args.c.text) refl c.put_check-t.ensures c.printed.ensures)
+returns-in-Accepted c = λ ps. rw (check-told c.args.c.memory.fields.sizes c.args.ops.now c.ends_of-e.result 0 c.ends_of-e.ensures.value) (step_on _ (valid_ported c.args.c.memory c.args.words.now c.args.list.now ps c.requires.0.valid) (any_as check_answer c.in-Accepted.is c.check_on-r.ensures ps) c.args.c.at (out c.args.buf.now c.args.c.text) refl c.put_check-t.ensures c.printed.ensures)
 
 pub returns-in-Refused : goal.returns-in-Refused
-returns-in-Refused c = λ ps. rw (check-told c.args.c.memory.fields.sizes c.args.ops.now c.ends_of-e.result 0 c.ends_of-e.ensures.0) (step-stop _ c.args.c.at (out c.args.buf.now c.args.c.text) (any_as check_answer c.in-Refused.is c.check_on-r.ensures ps))
+returns-in-Refused c = λ ps. rw (check-told c.args.c.memory.fields.sizes c.args.ops.now c.ends_of-e.result 0 c.ends_of-e.ensures.value) (step-stop _ c.args.c.at (out c.args.buf.now c.args.c.text) (any_as check_answer c.in-Refused.is c.check_on-r.ensures ps))

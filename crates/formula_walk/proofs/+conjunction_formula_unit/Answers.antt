@@ -128,7 +128,7 @@ pub unit-returns-in-Next : goal.unit-returns-in-Next
 unit-returns-in-Next t c =
     let B = rw c.in-Next.is at c.begin_unit-b.ensures in
     let W = B.2 c.args.words.now c.args.table.now c.requires in
-    let G = subst (λ (out : List ℕ). Goes c.args.g c.in-Next.is unit-part c.args.text.now c.args.words.now out c.in-Next.is c.unit.new.words c.unit.new.table c.unit.new.out c.unit.result) B.0 c.unit.ensures in
+    let G = subst (λ (out : List ℕ). Goes c.args.g c.in-Next.a unit-part c.args.text.now c.args.words.now out c.in-Next.y c.unit.new.words c.unit.new.table c.unit.new.out c.unit.result) B.0 c.unit.ensures in
     W.1 c.unit.new.words c.unit.new.table c.unit.new.out c.unit.result G
 
 pub unit-shape_of-words-in-Group : goal.unit-shape_of-words-in-Group
@@ -141,5 +141,5 @@ pub unit-returns-in-Group : goal.unit-returns-in-Group
 unit-returns-in-Group t c =
     let B = rw c.in-Group.is at c.begin_unit-b.ensures in
     let W = B.2 c.args.words.now c.args.table.now c.requires in
-    let G = subst (λ (out : List ℕ). Goes c.args.g c.in-Group.is formula-part c.args.text.now c.args.words.now out c.in-Group.is c.formula.new.words c.formula.new.table c.formula.new.out c.formula.result) B.0 c.formula.ensures in
+    let G = subst (λ (out : List ℕ). Goes c.args.g c.in-Group.a formula-part c.args.text.now c.args.words.now out c.in-Group.y c.formula.new.words c.formula.new.table c.formula.new.out c.formula.result) B.0 c.formula.ensures in
     W.1 c.formula.new.words c.formula.new.table c.formula.new.out c.formula.result c.close.result G c.close.ensures

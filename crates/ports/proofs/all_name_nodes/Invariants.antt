@@ -1,6 +1,7 @@
 use mathlib.Core.Path.{◌≡◌}
 use Prim.Native.Nat.{◌-◌}
 use Rattle.nodes.specs.Search.{every}
+use Rattle.ports.proofs.NameLaws.{names}
 use Rattle.ports.proofs.all_name_nodes.Given as goal
 
 abbrev pub invariant-loop-p : goal.invariant-loop-p

@@ -32,6 +32,11 @@ offset_bounds-all-at c =
     let H = read-holds c.args.r c.args.words.now c.args.list.now c.args.ports.now c.args.port c.args.enable.now c.args.address.now c.args.answer.now c.requires.3 c.requires.0 in
     omega (arith, H.port, H.wide, c.data_words.ensures)
 
+pub slice_bounds-read_word-end : goal.slice_bounds-read_word-end
+slice_bounds-read_word-end c =
+    let H = read-holds c.args.r c.args.words.now c.args.list.now c.args.ports.now c.args.port c.args.enable.now c.args.address.now c.args.answer.now c.requires.3 c.requires.0 in
+    omega (arith, H.port, H.wide, c.requires.3, c.data_words.ensures)
+
 pub read_word-u-requires : goal.read_word-u-requires
 read_word-u-requires c =
     let p = c.requires in

@@ -5,19 +5,19 @@ use Rattle.reading.proofs.kinds.kind_of.Goals as goal
 
 pub returns-in-1 : goal.returns-in-1
 unfolding kind_of
-returns-in-1 c = sym (ap kind_of c.in-1.keys1)
+returns-in-1 c = sym (ap kind_of c.in-1.is)
 
 pub returns-in-2 : goal.returns-in-2
 unfolding kind_of
-returns-in-2 c = sym (ap kind_of c.in-2.keys2)
+returns-in-2 c = sym (ap kind_of c.in-2.is)
 
 pub returns-in-3 : goal.returns-in-3
 unfolding kind_of
-returns-in-3 c = sym (ap kind_of c.in-3.keys3)
+returns-in-3 c = sym (ap kind_of c.in-3.is)
 
 pub returns-in-4 : goal.returns-in-4
 unfolding kind_of
-returns-in-4 c = sym (ap kind_of c.in-4.keys4)
+returns-in-4 c = sym (ap kind_of c.in-4.is)
 
 pub returns-in_default : goal.returns-in_default
-returns-in_default c = let r = c.in_default.rest in kind_other c.args.b r.0.0.0.1 r.0.0.1 r.0.1 r.1
+returns-in_default c = let r = c.in_default.in_default-own.rest in kind_other c.args.b r.0.0.0.1 r.0.0.1 r.0.1 r.1

@@ -13,13 +13,13 @@ pub returns-then-bytes-lt-NODES_FROM : goal.returns-then-bytes-lt-NODES_FROM
 returns-then-bytes-lt-NODES_FROM c = no-count c.args.bytes.now c.args.words.now c.if-bytes-lt-SIZES_END.false c.sizes_in.ensures c.in_range.ensures (ap not c.if-not-in_range.false) c.if-bytes-lt-NODES_FROM.true
 
 pub returns-then-bytes-k : goal.returns-then-bytes-k
-returns-then-bytes-k c = nodes-missing c.args.bytes.now c.args.words.now c.if-bytes-lt-SIZES_END.false c.sizes_in.ensures c.in_range.ensures (ap not c.if-not-in_range.false) c.if-bytes-lt-NODES_FROM.false c.number_at-k.ensures.0 (omega arith)
+returns-then-bytes-k c = nodes-missing c.args.bytes.now c.args.words.now c.if-bytes-lt-SIZES_END.false c.sizes_in.ensures c.in_range.ensures (ap not c.if-not-in_range.false) c.if-bytes-lt-NODES_FROM.false c.number_at-k.ensures.value (omega arith)
 
 pub has_room-requires : goal.has_room-requires
-has_room-requires c = c.number_at-k.ensures.1
+has_room-requires c = c.number_at-k.ensures.small
 
 pub returns-then-has_room : goal.returns-then-has_room
-returns-then-has_room c = room c.args.bytes.now c.args.words.now c.if-bytes-lt-SIZES_END.false c.sizes_in.ensures c.in_range.ensures (ap not c.if-not-in_range.false) c.if-bytes-lt-NODES_FROM.false c.number_at-k.ensures.0 (omega arith) c.has_room.ensures c.if-has_room.true
+returns-then-has_room c = room c.args.bytes.now c.args.words.now c.if-bytes-lt-SIZES_END.false c.sizes_in.ensures c.in_range.ensures (ap not c.if-not-in_range.false) c.if-bytes-lt-NODES_FROM.false c.number_at-k.ensures.value (omega arith) c.has_room.ensures c.if-has_room.true
 
 pub returns-else-has_room : goal.returns-else-has_room
-returns-else-has_room c = no_room c.args.bytes.now c.args.words.now c.if-bytes-lt-SIZES_END.false c.sizes_in.ensures c.in_range.ensures (ap not c.if-not-in_range.false) c.if-bytes-lt-NODES_FROM.false c.number_at-k.ensures.0 (omega arith) c.has_room.ensures c.if-has_room.false
+returns-else-has_room c = no_room c.args.bytes.now c.args.words.now c.if-bytes-lt-SIZES_END.false c.sizes_in.ensures c.in_range.ensures (ap not c.if-not-in_range.false) c.if-bytes-lt-NODES_FROM.false c.number_at-k.ensures.value (omega arith) c.has_room.ensures c.if-has_room.false
