@@ -5,7 +5,13 @@ use Rattle.memory.specs.Contract.{assert_answer}
 use Rattle.text.specs.Text.{out}
 use mathlib.Core.List.{[]}
 use mathlib.Core.Path.{refl}
+use native.Mathlib.Omega.{arith}
+use Rattle.reading.proofs.LayoutLaws.{known-size}
+use Rattle.format.specs.declared.Kind.TheVariants as kinds
 use Rattle.case_entries.proofs.do_assert.Goals as goal
+
+pub bounds-ops-0 : goal.bounds-ops-0
+bounds-ops-0 c = omega (arith, c.requires.1, known-size c.args.c.memory.fields.sizes kinds.Assert refl)
 
 pub assert_on-r-requires : goal.assert_on-r-requires
 assert_on-r-requires c = let L = assert_cut c.args.c.memory.fields.sizes c.args.ops.now c.ends_of-e.result c.ends_of-e.ensures.value c.requires.1 in (c.requires.0.valid, c.requires.0.sound, L.1, L.2)
