@@ -2,12 +2,13 @@
 """The files of proofs: what they hold, and laws by the words of their statements. Run it anywhere in the repository; it needs no prover.
 
   dev/proofs.py check [CRATE..]    fail where a file of proofs/ has a hole, where the proof of a function stands for no
-                                   function or in more than one form, where a file of laws is not declared in proofs/Lib.antt
-                                   or the other way round, or where nothing cites it
+                                   function or is a walk by hand, where a file of laws is not declared in proofs/Lib.antt or
+                                   the other way round, or where nothing cites it
   dev/proofs.py laws WORD..        the laws whose statement has all these words, as `laws appended length`
 
-A function's proof is Invariants.antt and Answers.antt, or Proof.antt, in crates/CRATE/proofs/FUNCTION/: its name, behind its
-module's or its type's, as `put_bytes`, `reader/next` or `Record/write`; or `+ite`, or `+f_g`, for a cycle of calls. A file of laws
+A function's proof is Invariants.antt, Answers.antt or both, in crates/CRATE/proofs/FUNCTION/: its name, behind its module's or
+its type's, as `put_bytes`, `reader/next` or `Record/write`; or `+ite`, or `+f_g`, for a cycle of calls. Proof.antt, a walk of
+the code by hand, is none: each change of the code breaks it. A file of laws
 is cited where another file of definitions or proofs takes a name of it, or a page of claims or an edit names what it proves.
 """
 import glob
@@ -15,7 +16,7 @@ import os
 import re
 import sys
 
-FORMS = ({"Invariants.antt"}, {"Answers.antt"}, {"Invariants.antt", "Answers.antt"}, {"Proof.antt"})
+OF_FUNCTIONS = ("Invariants.antt", "Answers.antt", "Proof.antt")
 PAGES = ("docs/CLAIMS.md", "docs/claims/*.md")
 
 
@@ -80,8 +81,7 @@ def functions(text):
 def function_faults(base, crate, folder, files):
     """What is wrong with the proof of a function, in a folder below proofs/."""
     place = "crates/%s/proofs/%s" % (crate, folder)
-    names = {os.path.basename(path) for path in files}
-    out = ["%s: %s: a function's proof is Invariants.antt and Answers.antt, or Proof.antt" % (place, " and ".join(sorted(names)))] if names not in FORMS else []
+    out = ["%s: a walk of the code by hand: write Answers.antt" % path for path in files if path.endswith("Proof.antt")]
     code = set().union(*(functions(read(os.path.join(base, path))) for path in found(base, "crates", crate, "src", "**", "*.rt")))
     last = folder.split("/")[-1]
     is_there = last in code or (last.startswith("+") and any(re.search(r"(?:^|_)%s(?:_|$)" % re.escape(name), last[1:]) for name in code))
@@ -119,7 +119,7 @@ def crate_faults(base, crate, uses):
     for path in found(base, "crates", crate, "proofs", "**", "*.antt"):
         text, parts = read(os.path.join(base, path)), path.split(os.sep)[3:]
         out += ["%s:%d: a hole" % (path, number) for number in holes(text)]
-        if parts[-1] in ("Invariants.antt", "Answers.antt", "Proof.antt"):
+        if parts[-1] in OF_FUNCTIONS:
             folders.setdefault("/".join(parts[:-1]), []).append(path)
         elif parts[-1] != "Lib.antt":
             files.append(path)
@@ -133,24 +133,23 @@ def crate_faults(base, crate, uses):
     there = [os.path.basename(path)[:-len(".antt")] for path in files if os.path.dirname(path) == top]
     out += ["%s: Lib.antt does not declare it" % os.path.join(top, name + ".antt") for name in there if name not in listed]
     out += ["%s: there is no %s.antt" % (os.path.join(top, "Lib.antt"), name) for name in listed if name not in there and not os.path.isdir(os.path.join(base, top, name))]
-    return out, len(folders), len(files), sum(path.endswith("Proof.antt") for those in folders.values() for path in those)
+    return out, len(folders), len(files)
 
 
 def do_check(base, crates):
-    uses, faults, functions_, files, walked = cited(base), [], 0, 0, 0
+    uses, faults, of_functions, of_laws = cited(base), [], 0, 0
     for crate in crates or crates_of(base):
-        said, of_functions, of_laws, by_hand = crate_faults(base, crate, uses)
-        faults, functions_, files, walked = faults + said, functions_ + of_functions, files + of_laws, walked + by_hand
+        said, folders, files = crate_faults(base, crate, uses)
+        faults, of_functions, of_laws = faults + said, of_functions + folders, of_laws + files
     for fault in faults:
         print(fault)
-    print("proofs: of %d functions, %d of them walked by hand; %d files of laws; %s"
-          % (functions_, walked, files, "%d faults" % len(faults) if faults else "all as said"))
+    print("proofs: of %d functions, and %d files of laws: %s" % (of_functions, of_laws, "%d faults" % len(faults) if faults else "all as said"))
     return 1 if faults else 0
 
 
 def do_laws(base, words):
     for path in found(base, "crates", "*", "proofs", "**", "*.antt"):
-        if os.path.basename(path) not in ("Invariants.antt", "Answers.antt", "Proof.antt"):
+        if os.path.basename(path) not in OF_FUNCTIONS:
             for line, name, statement in laws(read(os.path.join(base, path))):
                 if all(re.search(r"(?<![^\s(){}.,])" + re.escape(word) + r"(?![^\s(){}.,])", name + " " + statement) for word in words):
                     print("%s:%d: %s : %s" % (path, line, name, statement))

@@ -1,5 +1,5 @@
 #!/usr/bin/env python3
-"""Tests of dev/proofs.py on small repositories: holes, proofs of no function and in two forms, files of laws that are not declared or not cited, laws found by words. No prover is needed.
+"""Tests of dev/proofs.py on small repositories: holes, proofs of no function, walks by hand, files of laws that are not declared or not cited, laws found by words. No prover is needed.
 
     python3 tests/test_proofs.py [-v]
 """
@@ -35,7 +35,7 @@ FILES = {
     "crates/text/proofs/MoreLaws.antt": "pub put_more : put 1 ≡ 1\nput_more = refl\n",
     "crates/text/proofs/put_bytes/Answers.antt": ANSWERS,
     "crates/text/proofs/put_bytes/Invariants.antt": "abbrev pub decreases-loop : goal.decreases-loop\ndecreases-loop l = l.n\n",
-    "crates/text/proofs/reader/next/Proof.antt": "walk : ℕ\nwalk = 1\n",
+    "crates/text/proofs/reader/next/Answers.antt": "pub returns : goal.returns\nreturns c = refl\n",
     "crates/text/proofs/+even_odd/Invariants.antt": "abbrev pub decreases-even : goal.decreases-even\ndecreases-even l = l.n\n",
     "crates/text_c/src/lib.rt": "pub fn md_put() {}\n",
     "docs/CLAIMS.md": "| a | `text/specs/Text.antt` `put` | `text/proofs/MoreLaws.antt` `put_more` |\n",
@@ -68,8 +68,8 @@ class Repository(unittest.TestCase):
 class Check(Repository):
     def test_as_said(self):
         run = self.run_it("check")
-        self.assertEqual((run.returncode, run.stdout), (0, "proofs: of 3 functions, 1 of them walked by hand; 2 files of laws; all as said\n"))
-        self.assertEqual(self.run_it("check", "text_c").stdout, "proofs: of 0 functions, 0 of them walked by hand; 0 files of laws; all as said\n")
+        self.assertEqual((run.returncode, run.stdout), (0, "proofs: of 3 functions, and 2 files of laws: all as said\n"))
+        self.assertEqual(self.run_it("check", "text_c").stdout, "proofs: of 0 functions, and 0 files of laws: all as said\n")
 
     def test_holes(self):
         self.write("crates/text/proofs/put_bytes/Answers.antt", ANSWERS.replace("put_full c.args.b", "rw (put_full ?)\n  at (?, c.args)"))
@@ -77,9 +77,9 @@ class Check(Repository):
         self.assertEqual(self.faults(), ["crates/text/proofs/TextLaws.antt:2: a hole", "crates/text/proofs/put_bytes/Answers.antt:6: a hole",
                                          "crates/text/proofs/put_bytes/Answers.antt:7: a hole"])
 
-    def test_forms(self):
+    def test_walks(self):
         self.write("crates/text/proofs/put_bytes/Proof.antt", "walk : ℕ\nwalk = 1\n")
-        self.assertEqual(self.faults(), ["crates/text/proofs/put_bytes: Answers.antt and Invariants.antt and Proof.antt: a function's proof is Invariants.antt and Answers.antt, or Proof.antt"])
+        self.assertEqual(self.faults(), ["crates/text/proofs/put_bytes/Proof.antt: a walk of the code by hand: write Answers.antt"])
 
     def test_no_such_function(self):
         self.write("crates/text/src/reader.rt", "pub fn last() {}\n")
