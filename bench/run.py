@@ -120,8 +120,8 @@ def growth_tables(bench, maker, quick):
 
 def main():
     parser = argparse.ArgumentParser(description=__doc__, formatter_class=argparse.RawDescriptionHelpFormatter)
-    parser.add_argument("--memcase", default=os.path.join(build.ROOT, "target", "bin", "memcase"),
-                        help="the program, with its arguments (target/bin/memcase)")
+    parser.add_argument("--memcase", default=os.path.join(build.ROOT, "crates", "memcase", "out", "memcase"),
+                        help="the program, with its arguments (crates/memcase/out/memcase)")
     parser.add_argument("--quick", action="store_true", help="fewer cases and runs; docs/ is left alone")
     parser.add_argument("--runs", type=int,
                         help="runs of each program on each case (7, quick 3), three times as many of short ones")

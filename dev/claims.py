@@ -7,10 +7,8 @@
                           out is not there as a definition and as a program, where docs/CLAIMS.md or a page of
                           docs/claims/ cites a file or a name that is not there, where the first does not link to a page or section
                           of the others, or where a page links to what is not there
-  dev/claims.py try CRATE EDIT..   apply each of these edits to a copy of its crate, check that, and say what refuses it first
-                          (`rt check CRATE` before, for what stands below it)
 
-An edit begins with three lines, each once and in this order:
+What refuses an edit is said by `rt must-fail CRATE`. An edit begins with three lines, each once and in this order:
 
   # of: the sentence of 01 (in quotation marks) or the claim that it breaks; before the sentence `wrong program: ` where 01
         names it as one to be failed, `ruled out: ` where 01 rules it out, `row N: ` where it is of the table
@@ -20,10 +18,7 @@ An edit begins with three lines, each once and in this order:
 import glob
 import os
 import re
-import shutil
-import subprocess
 import sys
-import time
 
 PAGE = "docs/WRONG-PROGRAMS.md"
 CLAIMS = ("docs/CLAIMS.md", "docs/claims/*.md")
@@ -93,7 +88,7 @@ def edits(base):
 
 def crates_of(base):
     lines = (line.split("#")[0] for line in read(os.path.join(base, "crates.txt")).split("\n"))
-    return [line.split(":")[0].strip() for line in lines if ":" in line]
+    return [line.split(":")[0].split()[0] for line in lines if ":" in line]
 
 
 # ---- the page
@@ -102,7 +97,7 @@ HEAD = """# Wrong programs
 
 Made by `python3 dev/claims.py table` from the first lines of the edits: change those, not this page.
 
-Each edit under `crates/*/must-fail/` is a wrong definition or a wrong program of the same shape as the right one. The gate applies each to a copy of its crate, and fails where the prover accepts it. 'Of' is the sentence of 01, or the claim, that the edit breaks; 'refused by' is a contract, law or claim that no longer holds. A changed definition has its program, and laws that only spell it out, changed with it wherever that keeps the change from being refused for another reason. How an edit is written, and its log read: `docs/PROOFS.md`.
+Each edit under `crates/*/must-fail/` is a wrong definition or a wrong program of the same shape as the right one. The gate applies each to a copy of its crate, and fails where the prover accepts it. 'Of' is the sentence of 01, or the claim, that the edit breaks; 'refused by' is a contract, law or claim that no longer holds. A changed definition has its program, and laws that only spell it out, changed with it wherever that keeps the change from being refused for another reason. How an edit is written and tried: `docs/PROOFS.md`.
 """
 
 
@@ -237,7 +232,7 @@ def refused_faults(base, found):
 def all_pages(base):
     """Every page of the repository, from its root."""
     for folder, folders, files in os.walk(base):
-        folders[:] = sorted(name for name in folders if not name.startswith(".") and name != "target")
+        folders[:] = sorted(name for name in folders if not name.startswith(".") and name not in ("target", "out"))
         for name in sorted(files):
             if name.endswith(".md"):
                 yield os.path.relpath(os.path.join(folder, name), base)
@@ -302,59 +297,7 @@ def do_check(base):
     return 1 if faults else 0
 
 
-def applied(base, edit):
-    """A copy of the edit's crate with the edit applied, below target/."""
-    folder = os.path.join(base, "target", "edits", edit.label, edit.crate)
-    shutil.rmtree(folder, ignore_errors=True)
-    for top in ("src", "specs", "proofs"):
-        if os.path.isdir(os.path.join(base, "crates", edit.crate, top)):
-            shutil.copytree(os.path.join(base, "crates", edit.crate, top), os.path.join(folder, top))
-    for name, old, new in edit.changes:
-        text = read(os.path.join(folder, name)).replace(old, new)
-        with open(os.path.join(folder, name), "w", encoding="utf-8") as f:
-            f.write(text)
-    return folder
-
-
-def below(base, crate):
-    """What a crate stands on: the libraries of the repository, and the others."""
-    lines = [line.split("#")[0].split(":") for line in read(os.path.join(base, "crates.txt")).split("\n") if ":" in line.split("#")[0]]
-    deps = {name.strip(): rest.split() for name, rest in lines}
-    found, todo = [], [crate]
-    while todo:
-        todo = [d for c in todo for d in deps.get(c, []) if d not in found]
-        found += sorted(set(todo))
-    return [d for d in found if d in deps], [d for d in found if d not in deps]
-
-
-def refusals(output):
-    """Where a check refuses, and the declarations: the first few."""
-    return ["%s `%s`" % m for m in re.findall(r"(?m)^\S*?/((?:proofs|specs|src)/\S+?): error: `([^`]*)`", output)][:4]
-
-
-def do_try(base, crate, labels):
-    status = 0
-    for edit in edits(base):
-        if edit.crate != crate or edit.label not in labels:
-            continue
-        began, (own, others) = time.time(), below(base, crate)
-        words = ["rt", "check", applied(base, edit)] + (["--deps", ",".join(others)] if others else [])
-        words += [word for d in own for word in ("--extern", "%s=%s" % (d, os.path.join(base, "target", "rlib", d + ".rlib")))]
-        run = subprocess.run(words, capture_output=True, text=True, cwd=base)
-        output = run.stdout + run.stderr
-        if "logic=not-proved" not in output:
-            said, status = "NOT REFUSED" if run.returncode == 0 else "did not reach the prover:\n" + output[:600], 1
-        elif "has no `Need-" in output:
-            said, status = "refused for its shape alone: the proof file does not fit the code", 1
-        else:
-            said = "refused, first by " + "; ".join(refusals(output))
-        print("%s/%s: %s (%.0f s)" % (crate, edit.label, said, time.time() - began), flush=True)
-    return status
-
-
 def main(words):
-    if len(words) > 2 and words[0] == "try":
-        return do_try(root(), words[1], words[2:])
     if words == ["table"]:
         return do_table(root())
     if words == ["check"]:

@@ -1,8 +1,8 @@
 #!/usr/bin/env python3
-"""The tables of docs/CRATES.md: the crates in groups, what each holds, its edits, and its seconds in the gate. Run it anywhere in the repository; it needs no prover.
+"""The tables of docs/CRATES.md: the crates in groups, what each holds, and its edits; and how long the gate took. Run it anywhere in the repository; it needs no prover.
 
-  dev/crates.py           write the tables from crates.txt and the edits; the seconds stay
-  dev/crates.py LOG       the same with the seconds of a run of the gate (`.ci/run > LOG`)
+  dev/crates.py           write the tables from crates.txt and the edits; how long the gate took stays
+  dev/crates.py LOG       the same with what a run of the gate took that proved all (`.ci/run > LOG`)
   dev/crates.py --check   fail where the page is out of date as to groups, crates or edits, or a crate lacks its group or line
 
 In crates.txt `## TITLE` begins a group, and the comment right above a crate says what it holds.
@@ -15,7 +15,7 @@ from claims import edits, read, root
 
 LIST, PAGE = "crates.txt", "docs/CRATES.md"
 BEGIN, END = "<!-- Made by python3 dev/crates.py, from crates.txt and a log of the gate. -->", "<!-- The end of what is made. -->"
-HEAD = "| crate | holds | proved in s | edits | s an edit |\n|---|---|---|---|---|\n"
+HEAD = "| crate | holds | edits |\n|---|---|---|\n"
 
 
 class Fault(Exception):
@@ -31,7 +31,7 @@ def groups(base):
         if line.startswith("## "):
             found.append((line[3:].strip(), []))
         elif ":" in line.split("#")[0]:
-            crate = line.split(":")[0].strip()
+            crate = line.split(":")[0].split()[0]
             if not found or not above or "|" in above:
                 raise Fault("%s: %s" % (LIST, crate + (" stands above the first group" if not found else ": the line above it does not say what it holds")))
             found[-1][1].append((crate, above))
@@ -39,39 +39,31 @@ def groups(base):
     return found
 
 
-# ---- seconds: of the whole, and of each crate what it took, and an edit of it
+# ---- what the gate took
 
 def logged(path):
-    """The seconds of a log."""
+    """What a run took, by its log."""
     text = read(path)
-    proofs = dict(re.findall(r"(?m)^rt: (\w+) proved \((\d+) s\)$", text))
-    if not proofs:
-        raise Fault("%s has no line `rt: CRATE proved (N s)`" % path)
-    tried = {}
-    for crate, seconds in re.findall(r"(?m)^rt: must-fail (\w+)/\S+: refused, as it must be \(.*?(\d+) s\)$", text):
-        tried.setdefault(crate, []).append(int(seconds))
     whole = re.findall(r"(?m)^gate: (took .*)$", text)
     tally = re.findall(r"(?m)^(\d+ passed, \d+ failed)$", text)
-    said = "The gate %s: %s, `%s`." % (whole[-1], counted(proofs, tried), tally[-1]) if whole and tally else None
-    return said, {crate: (proofs.get(crate, ""), "%.0f" % (sum(tried[crate]) / len(tried[crate])) if crate in tried else "") for crate in {*proofs, *tried}}
-
-
-def counted(proofs, tried):
-    return "%d crates and %d edits" % (len(proofs), sum(map(len, tried.values())))
+    refused = re.findall(r"(?m)^rt: ok;.*must-fail edits: (\d+) refused", text)
+    if not whole or not tally or not refused:
+        raise Fault("%s is no log of a gate that passed" % path)
+    if "every proof and must-fail edit was done in this run" not in text:
+        raise Fault("%s is of a run that took over what earlier ones proved: its time says nothing" % path)
+    return "The gate %s: %d crates and %s edits, `%s`." % (whole[-1], len(set(re.findall(r"(?m)^rt: (\w+) proved$", text))), refused[-1], tally[-1])
 
 
 def kept(text):
-    """The seconds of the page as it is."""
+    """What the page says of it as it is."""
     said = re.search(r"(?m)^The gate took .*$", text)
-    rows = re.findall(r"(?m)^\| `(\w+)` \| [^|]* \| *(\d*) *\| *\d* *\| *(\d*) *\|$", text)
-    return said.group() if said else None, {crate: (proof, edit) for crate, proof, edit in rows}
+    return said.group() if said else None
 
 
 # ---- the page
 
-def tables(base, seconds):
+def tables(base, said):
     """What is made."""
-    said, times = seconds
     many = {}
     for edit in edits(base):
         many[edit.crate] = many.get(edit.crate, 0) + 1
@@ -79,21 +71,20 @@ def tables(base, seconds):
     for title, rows in groups(base):
         out.append("### %s\n\n" % title + HEAD)
         for crate, holds in rows:
-            proof, edit = times.get(crate, ("", ""))
-            out[-1] += "| `%s` | %s | %s | %s | %s |\n" % (crate, holds, proof, many.get(crate, ""), edit)
+            out[-1] += "| `%s` | %s | %s |\n" % (crate, holds, many.get(crate, ""))
         crates += len(rows)
     last = "%d crates, %d edits.%s\n" % (crates, sum(many.values()), "\n\n" + said if said else "")
     return "\n".join([*out, last])
 
 
-def made(base, seconds=None):
-    """The page, with the seconds that it has where none are given."""
+def made(base, said=None):
+    """The page, with what it says of the gate where nothing is given."""
     text = read(os.path.join(base, PAGE))
     if text.count(BEGIN) != 1 or text.count(END) != 1:
         raise Fault("%s: the lines `%s` and `%s` do not stand there once each" % (PAGE, BEGIN, END))
     before, rest = text.split(BEGIN)
     old, after = rest.split(END)
-    return "%s%s\n\n%s\n%s%s" % (before, BEGIN, tables(base, seconds or kept(old)), END, after)
+    return "%s%s\n\n%s\n%s%s" % (before, BEGIN, tables(base, said or kept(old)), END, after)
 
 
 def main(words):

@@ -323,8 +323,8 @@ class Reader:
                 parameters, _, rest = body.partition("=")
                 self.bodies[name[1]] = parameters.split()[1:], TOKEN.findall(rest)
         self.known = {name: (lambda *words, name=name: (name, *words)) for name in (
-            "recordOf", "write", "read", "assert", "check", "place", "filled")}
-        self.known.update(inPort=lambda port, word: (port, word), length=len, replicate=lambda many, word: [word] * many)
+            "record_of", "write", "read", "assert", "check", "place", "filled")}
+        self.known.update(in_port=lambda port, word: (port, word), length=len, replicate=lambda many, word: [word] * many)
         self.constants = {"idle", "kept", "entered", "accepted"}
 
     def value(self, name, *given):
@@ -380,7 +380,7 @@ class Reader:
 
     def lines(self):
         """The lines of the table by their names."""
-        names = [token for table in ("orders", "overUsers") for token in self.bodies[table][1] if token not in ("∷", "[]")]
+        names = [token for table in ("orders", "over_users") for token in self.bodies[table][1] if token not in ("∷", "[]")]
         return {name: self.value(name) for name in names}
 
 
@@ -415,7 +415,7 @@ def faults(line, written):
     words = written.nodes + written.made
     if left.number or left.nodes != words:
         found.append("made: %s" % left.nodes[len(written.nodes):])
-    if ("recordOf", *left.record) != written.after:
+    if ("record_of", *left.record) != written.after:
         found.append("after: %s" % (left.record,))
     if left.list != written.left:
         found.append("left: %s" % left.list)
@@ -441,8 +441,8 @@ def text_of(line):
     """A call over the nodes `users` and further ones as the table has it, by what the second program leaves."""
     left = left_by_calls(line)
     size = entry_size(line.n, line.w)
-    before = "(recordOf %s)" % " ".join(map(str, state_of(line, 0)[0]))
-    after = "(recordOf %s)" % " ".join(map(str, left.record))
+    before = "(record_of %s)" % " ".join(map(str, state_of(line, 0)[0]))
+    after = "(record_of %s)" % " ".join(map(str, left.record))
     more = list_text(halves(line.nodes[3:]))
     made, entries = list_text(made_by_calls(line)), list_text(line.entries)
     if line.kind == READ:

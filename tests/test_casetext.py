@@ -969,7 +969,7 @@ class Documents(unittest.TestCase):
 
     def test_register_file(self):
         printed = memcase(casetext.encode(read("examples/regfile.txt")))
-        self.assertIn("encode examples/regfile.txt | target/bin/memcase\n\n%s" % shown(printed), self.SECTION)
+        self.assertIn("encode examples/regfile.txt | crates/memcase/out/memcase\n\n%s" % shown(printed), self.SECTION)
         start = read("examples/regfile.txt").split("\n\n", 1)[1].split("\n\n# Any register")[0]
         self.assertIn(shown(start), self.SECTION)
 

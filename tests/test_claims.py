@@ -15,7 +15,7 @@ sys.dont_write_bytecode = True
 ROOT = os.path.dirname(os.path.dirname(os.path.abspath(__file__)))
 
 FILES = {
-    "crates.txt": "# All crates.\n\n## The low one\n# words\nlow:\n\n## Others\n# the record\nhigh: low\n",
+    "crates.txt": "# All crates.\n\n## The low one\n# words\nlow:\n\n## Others\n# the record\nhigh staticlib: low\n",
     "crates/low/specs/Words.antt": "pub record Word where\n  pub size : ℕ\n\nabbrev pub capacityOf : ℕ → ℕ\ncapacityOf w = w / 3\n",
     "crates/low/proofs/WordsLaws.antt": "pub node-has : capacityOf 3 ≡ 1\nnode-has = refl\n",
     "crates/low/src/lib.rt": "pub fn clear(words: &mut [u32]) {\n    words[0] = 0;\n}\n",
@@ -167,33 +167,22 @@ class Claims(Repository):
             "docs/deep/A.md:4: no heading is ../../crates.txt#low"])
         self.write("README.md", FILES["README.md"].replace("#name-1", "#name-2"))
         self.write("target/B.md", "[a](nowhere.md)\n")
+        self.write("crates/low/out/C.md", "[a](nowhere.md)\n")
         self.assertEqual(self.faults()[0], "README.md:16: no heading is #name-2")
         self.assertEqual(len(self.faults()), 8)
-
-    def test_applied(self):
-        """An edit is applied to a copy, and what its crate stands on is found."""
-        sys.path.insert(0, os.path.join(ROOT, "dev"))
-        import claims
-        edit = next(e for e in claims.edits(self.base) if e.label == "reads")
-        with open(os.path.join(claims.applied(self.base, edit), "src", "lib.rt"), encoding="utf-8") as f:
-            self.assertEqual(f.read(), FILES["crates/high/src/lib.rt"].replace("    1", "    0"))
-        self.assertEqual(self.read("crates/high/src/lib.rt"), FILES["crates/high/src/lib.rt"])
-        self.write("crates.txt", "low:\nmiddle: low io\nhigh: middle libc\n")
-        self.assertEqual(claims.below(self.base, "high"), (["middle", "low"], ["libc", "io"]))
-        self.assertEqual(claims.refusals("/a/b/proofs/ClearLaws.antt:27:18: error: `clear-zero`: no\n  more\n"), ["proofs/ClearLaws.antt:27:18 `clear-zero`"])
 
     def test_usage(self):
         self.assertEqual(self.run_it().returncode, 2)
 
 
 LOG = """gate: note: elsewhere
-rt: low proved (12 s)
 fn high::read: proved
-rt: high proved (3 s)
-rt: must-fail low/clear_one: refused, as it must be (first at proofs/clear/Proof.antt:3:1; 4 s)
-rt: must-fail low/less: refused, as it must be (7 s)
-rt: must-fail high/less: NOT REFUSED: the crate is still proved with this edit (9 s)
-rt: ok, 2 crates proved, 2 must-fail edits refused
+rt: low proved
+rt: high proved
+rt: high: its tests are proved
+rt: must-fail low/clear_one.edit: refused, as it must be: proofs/clear/Answers.antt:3:1: error: `returns`: no
+rt: must-fail low/less.edit: refused, as it must be
+rt: ok; handles allowed: none; must-fail edits: 2 refused, 1 of them only by a limit; every proof and must-fail edit was done in this run
 4 passed, 0 failed
 gate: took 1 min 5 s on 2 cores
 4 passed, 0 failed
@@ -201,15 +190,15 @@ gate: took 1 min 5 s on 2 cores
 
 TABLES = """### The low one
 
-| crate | holds | proved in s | edits | s an edit |
-|---|---|---|---|---|
-| `low` | words | 12 | 3 | 6 |
+| crate | holds | edits |
+|---|---|---|
+| `low` | words | 3 |
 
 ### Others
 
-| crate | holds | proved in s | edits | s an edit |
-|---|---|---|---|---|
-| `high` | the record | 3 | 2 |  |
+| crate | holds | edits |
+|---|---|---|
+| `high` | the record | 2 |
 
 2 crates, 5 edits.
 
@@ -233,10 +222,10 @@ class Crates(Repository):
     FRESH = (0, "crates: as docs/CRATES.md says\n")
 
     def test_tables(self):
-        """Made without seconds, with those of a log, and kept."""
+        """Made without a log, with what one says, and kept."""
         self.assertEqual(self.crates("--check"), self.STALE)
         self.assertEqual(self.crates(), (0, ""))
-        self.assertIn("| `low` | words |  | 3 |  |\n", self.read("docs/CRATES.md"))
+        self.assertIn("| `low` | words | 3 |\n", self.read("docs/CRATES.md"))
         self.assertEqual(self.crates("--check"), self.FRESH)
         self.assertEqual(self.crates(self.log(LOG)), (0, ""))
         begin, end = FILES["docs/CRATES.md"].split("\n")[2:4]
@@ -246,9 +235,9 @@ class Crates(Repository):
         self.assertIn(TABLES, self.read("docs/CRATES.md"))
 
     def test_out_of_date_page(self):
-        """A group, a crate or an edit more or less, or another line, makes the page stale; other seconds do not."""
+        """A group, a crate or an edit more or less, or another line, makes the page stale; another time does not."""
         self.crates(self.log(LOG))
-        self.write("docs/CRATES.md", self.read("docs/CRATES.md").replace("| 12 |", "| 13 |"))
+        self.write("docs/CRATES.md", self.read("docs/CRATES.md").replace("1 min 5 s", "2 min 5 s"))
         self.assertEqual(self.crates("--check"), self.FRESH)
         said = FILES["crates.txt"]
         for text in (said.replace("# words", "# other words"), said.replace("## Others", "## Other"), said.replace("\n## Others\n", ""), said + "# more\nmore: low\n"):
@@ -258,7 +247,8 @@ class Crates(Repository):
         os.remove(os.path.join(self.base, "crates/low/must-fail/clear_one.edit"))
         self.assertEqual(self.crates("--check"), self.STALE)
         self.crates()
-        self.assertIn("| `low` | words | 13 | 2 | 6 |\n", self.read("docs/CRATES.md"))
+        self.assertIn("| `low` | words | 2 |\n", self.read("docs/CRATES.md"))
+        self.assertIn("2 min 5 s", self.read("docs/CRATES.md"))
 
     def test_list(self):
         """A crate has a group, and a line right above it."""
@@ -270,14 +260,14 @@ class Crates(Repository):
             self.assertEqual(self.crates("--check"), (1, "crates.txt: %s\n" % fault))
 
     def test_log(self):
-        """A log that is none, or is not of the whole gate."""
+        """A log that is none, or is of a gate that failed or did not do all."""
         page = self.read("docs/CRATES.md")
-        path = self.log("rt: low proved (unchanged since it was last proved)\n")
-        self.assertEqual(self.crates(path), (1, "%s has no line `rt: CRATE proved (N s)`\n" % path))
+        path = self.log("rt: low proved\n")
+        self.assertEqual(self.crates(path), (1, "%s is no log of a gate that passed\n" % path))
         self.assertEqual(self.crates("nowhere")[0], 1)
+        path = self.log(LOG.replace("every proof and must-fail edit was done in this run", "done in this run: 1 of the 2 proofs; the others are kept"))
+        self.assertEqual(self.crates(path), (1, "%s is of a run that took over what earlier ones proved: its time says nothing\n" % path))
         self.assertEqual(self.read("docs/CRATES.md"), page)
-        self.assertEqual(self.crates(self.log("rt: high proved (8 s)\n")), (0, ""))
-        self.assertIn("| `high` | the record | 8 | 2 |  |\n\n2 crates, 5 edits.\n\n<!--", self.read("docs/CRATES.md"))
 
     def test_marks(self):
         self.write("docs/CRATES.md", "# Crates\n")

@@ -1,7 +1,7 @@
 #!/usr/bin/env python3
 """A fault of the system is no verdict: what memcase writes where it cannot read or write, or is given an argument.
 
-    python3 tests/test_memcase.py [target/bin/memcase]
+    python3 tests/test_memcase.py [crates/memcase/out/memcase]
 """
 import os
 import subprocess
@@ -9,7 +9,7 @@ import sys
 import tempfile
 import unittest
 
-MEMCASE = "target/bin/memcase"
+MEMCASE = "crates/memcase/out/memcase"
 
 # The paper's own file, and what it prints.
 FILE = bytes.fromhex("0101020008000001000801000000030001010000000200030001000000020001000000000001000401000000010001000000")
@@ -55,5 +55,5 @@ if __name__ == "__main__":
     if len(sys.argv) > 1:
         MEMCASE = sys.argv.pop(1)
     if not os.path.exists(MEMCASE):
-        sys.exit(f"{MEMCASE} is not there: build it by `rt check memcase`")
+        sys.exit(f"{MEMCASE} is not there: `rt run < /dev/null` in crates/memcase builds it")
     unittest.main()

@@ -70,17 +70,17 @@ class FirstCase(unittest.TestCase):
         self.assertEqual(answer(self.path), answer("examples/worked.txt"))
 
     def test_run(self):
-        command, = re.findall(r"(?m)^    (python3 tools/casetext.py run mine.txt --memcase) target/bin/memcase$", self.SECTION)
+        command, = re.findall(r"(?m)^    (python3 tools/casetext.py run mine.txt --memcase) crates/memcase/out/memcase$", self.SECTION)
         words = shlex.split(command.replace("mine.txt", shlex.quote(self.path)))
         text = printed([sys.executable, *words[1:], REFERENCE]).decode("ascii")
-        self.assertIn("    %s target/bin/memcase\n\n%s" % (command, shown(text)), self.SECTION + "\n")
+        self.assertIn("    %s crates/memcase/out/memcase\n\n%s" % (command, shown(text)), self.SECTION + "\n")
 
 
 class FirstCommand(unittest.TestCase):
     def test_crates(self):
         """How many crates it proves: `memcase`, and what stands below it."""
         lines = [line.split("#")[0].split(":") for line in read("crates.txt").splitlines() if ":" in line.split("#")[0]]
-        stands_on = {name: more.split() for name, more in lines}
+        stands_on = {name.split()[0]: more.split() for name, more in lines}
         found, todo = set(), ["memcase"]
         while todo:
             name = todo.pop()
@@ -95,7 +95,7 @@ class Texts(unittest.TestCase):
         """What `memcase` prints of an example is shown behind its command."""
         for page, wanted in (("README.md", ["worked"]), ("docs/CASES.md", ["regfile", "budget"])):
             text = read(page)
-            found = re.findall(r"(?m)^    (?:rt check memcase && )?(python3 tools/casetext.py encode examples/(\w+).txt \| target/bin/memcase)$", text)
+            found = re.findall(r"(?m)^    (python3 tools/casetext.py encode examples/(\w+).txt \| (?:crates/memcase/out/memcase|\(cd crates/memcase && rt run\)))$", text)
             self.assertEqual([name for _, name in found], wanted)
             for command, name in found:
                 self.assertIn("%s\n\n%s\n" % (command, shown(answer("examples/%s.txt" % name))), text)

@@ -76,7 +76,7 @@ from common.simulatorruns import AllEnded, Misuse, all_ended, end_all, escaped, 
 from language.words import counted
 
 ROOT = os.path.dirname(os.path.dirname(os.path.abspath(__file__)))
-MEMCASE = "target/bin/memcase"
+MEMCASE = "crates/memcase/out/memcase"
 
 HANGS = 10
 REDUCE_SECONDS = 60
@@ -86,7 +86,7 @@ REDUCE_SECONDS = 60
 
 def read_memcase(command):
     if command is None:
-        return need_program([os.path.join(ROOT, *MEMCASE.split("/"))], "; `rt check memcase` builds it")
+        return need_program([os.path.join(ROOT, *MEMCASE.split("/"))], "; `rt run < /dev/null` in crates/memcase builds it")
     return words_of(command)
 
 

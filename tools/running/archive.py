@@ -19,10 +19,11 @@ from papers import (ASSERT, ENTRY_LIMIT, INPUT_BYTES, LIST_WORDS, NODE_LIMIT, NO
 
 ROOT = os.path.dirname(os.path.dirname(os.path.dirname(os.path.abspath(__file__))))
 # Where archives are that were built in the clone: those of one pattern are used together.
-ARCHIVES = [os.path.join(ROOT, "target", *path) for path in
-            (("staticlib", "libcapi*.a"), ("staticlib", "libmangerday.a"), ("prefix", "lib", "libmangerday.a"))]
+ARCHIVES = [os.path.join(ROOT, *path) for path in
+            (("crates", "capi*_c", "out", "libcapi*_c.a"), ("target", "staticlib", "libmangerday.a"),
+             ("target", "prefix", "lib", "libmangerday.a"))]
 FUNCTIONS = ["md_" + name for name in ("fresh", "write", "read", "assert", "check", "case")]
-MEMCASE = os.path.join(ROOT, "target", "bin", "memcase")
+MEMCASE = os.path.join(ROOT, "crates", "memcase", "out", "memcase")
 BUILD = "`link/install target/prefix` builds it"
 
 REFUSAL = re.compile(rb"refused (0|[1-9][0-9]*) after (0|[1-9][0-9]*)\n")
@@ -219,5 +220,5 @@ def find(archives, memcase, seconds):
             return Archive(paths), None
         except Misuse as error:
             missing = str(error)
-    need_program([MEMCASE], "; `rt check memcase` builds it, and `link/install target/prefix` the archive")
+    need_program([MEMCASE], "; `rt run < /dev/null` in crates/memcase builds it, and `link/install target/prefix` the archive")
     return Program([MEMCASE], seconds), missing

@@ -424,7 +424,7 @@ def parser_of():
     parser.add_argument("--svg", metavar="WHAT", help="write a condition as a picture")
     parser.add_argument("-o", dest="output", metavar="FILE", help="where --dot or --svg writes (standard output)")
     parser.add_argument("--archive", action="append", metavar="FILE",
-                        help="libmangerday.a, where it is not in target/; an archive in parts is given part by part")
+                        help="libmangerday.a, where it was not built in the clone; an archive in parts is given part by part")
     parser.add_argument("--memcase", metavar="COMMAND", help="run this in place of the archive, as `memcase`")
     parser.add_argument("--seconds", type=float, default=10, metavar="S", help="for a run of that command (10)")
     return parser

@@ -10,8 +10,7 @@ use memory::{AssertAnswer, CheckAnswer, ReadAnswer, WriteAnswer};
 use record_words::RecordWords;
 
 // Write: the place of the entry, or 4294967295 for an idle write.
-#[unsafe(no_mangle)]
-pub extern "C" fn md_write(
+pub fn md_write(
     record: &mut RecordWords,
     nodes: &mut [u32],
     list: &mut [u32],
@@ -39,8 +38,7 @@ pub extern "C" fn md_write(
 }
 
 // Check.
-#[unsafe(no_mangle)]
-pub extern "C" fn md_check(
+pub fn md_check(
     record: &mut RecordWords,
     nodes: &mut [u32],
     list: &[u32],
@@ -60,8 +58,7 @@ pub extern "C" fn md_check(
 }
 
 // Assert: entered is 1, or 0 for kept.
-#[unsafe(no_mangle)]
-pub extern "C" fn md_assert(
+pub fn md_assert(
     record: &mut RecordWords,
     nodes: &mut [u32],
     list: &mut [u32],
@@ -89,8 +86,7 @@ pub extern "C" fn md_assert(
 }
 
 // Read, at a port.
-#[unsafe(no_mangle)]
-pub extern "C" fn md_read(
+pub fn md_read(
     record: &mut RecordWords,
     nodes: &mut [u32],
     list: &[u32],

@@ -10,8 +10,7 @@ use casefile::CaseAnswer;
 use record_words::RecordWords;
 
 // Asserts by a written formula.
-#[unsafe(no_mangle)]
-pub extern "C" fn md_assert_formula(
+pub fn md_assert_formula(
     record: &mut RecordWords,
     nodes: &mut [u32],
     list: &mut [u32],
@@ -30,8 +29,7 @@ pub extern "C" fn md_assert_formula(
 }
 
 // Checks by one.
-#[unsafe(no_mangle)]
-pub extern "C" fn md_check_formula(
+pub fn md_check_formula(
     record: &mut RecordWords,
     nodes: &mut [u32],
     list: &[u32],
@@ -50,8 +48,7 @@ pub extern "C" fn md_check_formula(
 }
 
 // A case file: count is the text length, or K where the case is refused.
-#[unsafe(no_mangle)]
-pub extern "C" fn md_case(
+pub fn md_case(
     case: &[u8],
     nodes: &mut [u32],
     list: &mut [u32],

@@ -13,8 +13,7 @@ use semantics::Sizes;
 use text::Text;
 
 // Fresh.
-#[unsafe(no_mangle)]
-pub extern "C" fn md_fresh(
+pub fn md_fresh(
     record: &mut RecordWords,
     n: u32,
     w: u32,
@@ -34,8 +33,7 @@ pub extern "C" fn md_fresh(
 }
 
 // The node of a variable.
-#[unsafe(no_mangle)]
-pub extern "C" fn md_variable(
+pub fn md_variable(
     record: &mut RecordWords,
     nodes: &mut [u32],
     variable: u32,
@@ -56,8 +54,7 @@ pub extern "C" fn md_variable(
 }
 
 // The node of Ite(f, g, h).
-#[unsafe(no_mangle)]
-pub extern "C" fn md_ite(
+pub fn md_ite(
     record: &mut RecordWords,
     nodes: &mut [u32],
     f: u32,
@@ -80,8 +77,7 @@ pub extern "C" fn md_ite(
 }
 
 // The value of a node under a 64-bit assignment: 0 or 1.
-#[unsafe(no_mangle)]
-pub extern "C" fn md_evaluate(
+pub fn md_evaluate(
     record: &RecordWords,
     nodes: &[u32],
     node: u32,
@@ -102,8 +98,7 @@ pub extern "C" fn md_evaluate(
 }
 
 // A condition's text, into the text bytes from the first on: a text that does not fit leaves zeros.
-#[unsafe(no_mangle)]
-pub extern "C" fn md_text(
+pub fn md_text(
     record: &RecordWords,
     nodes: &[u32],
     node: u32,
@@ -128,13 +123,7 @@ pub extern "C" fn md_text(
 }
 
 // An assignment under which a node holds; of node 0, under which none does, it is 0.
-#[unsafe(no_mangle)]
-pub extern "C" fn md_witness(
-    record: &RecordWords,
-    nodes: &[u32],
-    node: u32,
-    assignment: &mut u64,
-) -> u32
+pub fn md_witness(record: &RecordWords, nodes: &[u32], node: u32, assignment: &mut u64) -> u32
     ensures { (result, assignment.new) ≡ witnessed node «record».now nodes.now assignment.old }
 {
     let r = record_words::record_of(record);
