@@ -2,6 +2,8 @@
 // Of each it prints a line: its number; what the call returned and counted; the record; a digest of each buffer, also past what was lent. Then the text, if it was accepted.
 #![tactic(auto)]
 
+use std::io;
+use std::io::{BufReader, BufWriter, Read, Write};
 use stored::{Item, RecordWords, digest_bytes, digest_words, length, wide};
 
 // What a call returned and counted, and the record.
@@ -12,29 +14,36 @@ struct Done {
     record: RecordWords,
 }
 
-fn tell(d: Done) {
+fn tell<W: Write>(out: &mut W, d: Done) -> io::Result<()> {
     let r = d.record;
-    stored::word(d.row);
-    wide(d.count);
-    stored::record(&r);
+    stored::word(out, d.row)?;
+    wide(out, d.count)?;
+    stored::record(out, &r)
 }
 
 // The text of an accepted case.
-fn text_of(row: u32, text: &[u8], count: u64) {
+fn text_of<W: Write>(out: &mut W, row: u32, text: &[u8], count: u64) -> io::Result<()> {
     let n = count as usize;
     if row == 0 {
         if n <= text.len() {
-            stored::bytes(&text[..n]);
+            stored::bytes(out, &text[..n])?;
         }
     }
+    Ok(())
 }
 
 // The digests, of node words and list words from e and f on.
-fn digests(x: Item, words: &[u32], list: &[u32], text: &[u8]) {
-    wide(digest_words(words, x.e as usize));
-    wide(digest_words(list, x.f as usize));
-    wide(digest_bytes(text));
-    stored::bytes(b"\n");
+fn digests<W: Write>(
+    out: &mut W,
+    x: Item,
+    words: &[u32],
+    list: &[u32],
+    text: &[u8],
+) -> io::Result<()> {
+    wide(out, digest_words(words, x.e as usize))?;
+    wide(out, digest_words(list, x.f as usize))?;
+    wide(out, digest_bytes(text))?;
+    stored::bytes(out, b"\n")
 }
 
 // The call, lent a words, b list words and c bytes. The record's words and the count are 7 before.
@@ -56,45 +65,63 @@ fn lend(x: Item, case: &[u8], words: &mut [u32], list: &mut [u32], text: &mut [u
 }
 
 // A case and what is said of it.
-fn told(x: Item, case: &[u8], words: &mut [u32], list: &mut [u32], text: &mut [u8]) {
+fn told<W: Write>(
+    out: &mut W,
+    x: Item,
+    case: &[u8],
+    words: &mut [u32],
+    list: &mut [u32],
+    text: &mut [u8],
+) -> io::Result<()> {
     let d = lend(x, case, words, list, text);
-    tell(d);
-    digests(x, words, list, text);
-    text_of(d.row, text, d.count);
+    tell(out, d)?;
+    digests(out, x, words, list, text)?;
+    text_of(out, d.row, text, d.count)
 }
 
 // A case on buffers in which no part is 0, a node, a variable or a byte of text.
-fn run(x: Item, case: &[u8]) {
+fn run<W: Write>(out: &mut W, x: Item, case: &[u8]) -> io::Result<()> {
     let mut words = [0x8000_0007u32; 60100];
     let mut list = [0x8000_0007u32; 30100];
     let mut text = [0x87u8; 65636];
-    told(x, case, &mut words, &mut list, &mut text);
+    told(out, x, case, &mut words, &mut list, &mut text)
 }
 
 // The next case, of d bytes, of which the call is lent g. Whether there was one.
-fn next(case: &mut [u8], number: u32) -> bool {
-    let x = stored::next();
+fn next<R: Read, W: Write>(
+    input: &mut R,
+    out: &mut W,
+    case: &mut [u8],
+    number: u32,
+) -> io::Result<bool> {
+    let x = stored::next(input)?;
     if x.kind == 0 {
-        return false;
+        return Ok(false);
     }
     let size = length(x.d, case.len());
     let lent = length(x.g, case.len());
-    io::read_full(libc::STDIN_FILENO, &mut case[..size]);
-    stored::bytes(b"case");
-    stored::word(number);
-    stored::bytes(b":");
-    run(x, &case[..lent]);
-    true
+    stored::read_full(input, &mut case[..size])?;
+    stored::bytes(out, b"case")?;
+    stored::word(out, number)?;
+    stored::bytes(out, b":")?;
+    run(out, x, &case[..lent])?;
+    Ok(true)
 }
 
 // As much as the largest of the stored cases has, 81,938 bytes, and some more.
-fn main() {
+fn run_all<R: Read, W: Write>(input: &mut R, out: &mut W) -> io::Result<()> {
     let mut case = [0u8; 82000];
-    let mut number: u32 = 0;
-    while number < 1_000_000 {
-        if !next(&mut case, number) {
-            return;
+    for number in 0..1_000_000 {
+        if !next(input, out, &mut case, number)? {
+            return Ok(());
         }
-        number += 1;
     }
+    Ok(())
+}
+
+fn main(rt: HostRuntime) -> io::Result<()> {
+    let mut input = BufReader::new(rt.alloc(), rt.stdin())?;
+    let mut out = BufWriter::new(rt.alloc(), rt.stdout())?;
+    run_all(&mut input, &mut out)?;
+    out.flush()
 }

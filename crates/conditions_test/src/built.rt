@@ -1,9 +1,11 @@
 // Operations one after the other, on one store and with one table.
-ghost use Rattle.std.specs.Prelude.{◌≡◌, ◌<◌};
+ghost use Rattle.std.specs.Prelude.{◌≡◌, ◌<◌, IfOk};
 ghost use Rattle.conditions.specs.Contract.{Sound};
 
 use crate::asked;
 use conditions::{Built, Store, Table};
+use std::io;
+use std::io::{Read, Write};
 use stored::Item;
 
 // The variable is a, and the nodes are b, c and d.
@@ -23,61 +25,78 @@ fn build(x: Item, words: &mut [u32], table: &mut Table, s: Store) -> Built
 }
 
 // The node, the count and whether the store is full.
-fn tell(r: Built) {
-    stored::word(r.node);
-    stored::word(r.store.count);
-    stored::word(r.store.full as u32);
-    stored::bytes(b"\n");
+fn tell<W: Write>(out: &mut W, r: Built) -> io::Result<()> {
+    stored::word(out, r.node)?;
+    stored::word(out, r.store.count)?;
+    stored::word(out, r.store.full as u32)?;
+    stored::bytes(out, b"\n")
 }
 
 // An operation, or a question that builds nothing.
-fn act(x: Item, words: &mut [u32], table: &mut Table, s: Store) -> Store
+fn act<W: Write>(
+    out: &mut W,
+    x: Item,
+    words: &mut [u32],
+    table: &mut Table,
+    s: Store,
+) -> io::Result<Store>
     requires { Sound words.old table.old s × (x.a < 64) × (x.b < s.count) × (x.c < s.count) × (x.d < s.count) }
-    ensures { Sound words.new table.new result }
+    ensures { IfOk result (λ t. Sound words.new table.new t) }
 {
     if x.kind < 20 {
         let r = build(x, words, table, s);
-        tell(r);
-        return r.store;
+        tell(out, r)?;
+        return Ok(r.store);
     }
-    asked::ask(x, words, s.count);
-    s
+    asked::ask(out, x, words, s.count)?;
+    Ok(s)
 }
 
 // The same, if the variable and the nodes are some. 27 is a search, for any words.
-fn step(x: Item, words: &mut [u32], table: &mut Table, s: Store) -> Store
+fn step<W: Write>(
+    out: &mut W,
+    x: Item,
+    words: &mut [u32],
+    table: &mut Table,
+    s: Store,
+) -> io::Result<Store>
     requires { Sound words.old table.old s }
-    ensures { Sound words.new table.new result }
+    ensures { IfOk result (λ t. Sound words.new table.new t) }
 {
     if x.kind == 27 {
-        asked::look(x, words, s.count);
-        return s;
+        asked::look(out, x, words, s.count)?;
+        return Ok(s);
     }
     if x.a < 64 {
         if x.b < s.count {
             if x.c < s.count {
                 if x.d < s.count {
-                    return act(x, words, table, s);
+                    return act(out, x, words, table, s);
                 }
             }
         }
     }
-    stored::bytes(b"no node\n");
-    s
+    stored::bytes(out, b"no node\n")?;
+    Ok(s)
 }
 
 // All items up to one that is no operation.
-pub fn run(words: &mut [u32], table: &mut Table, s: Store)
+pub fn run<R: Read, W: Write>(
+    input: &mut R,
+    out: &mut W,
+    words: &mut [u32],
+    table: &mut Table,
+    s: Store,
+) -> io::Result<()>
     requires { Sound words.old table.old s }
 {
     let mut store = s;
-    let mut left: u32 = 1_000_000;
-    while left > 0 {
-        let x = stored::next();
+    for _ in 0..1_000_000 {
+        let x = stored::next(input)?;
         if x.kind < 11 {
-            return;
+            return Ok(());
         }
-        store = step(x, words, table, store);
-        left -= 1;
+        store = step(out, x, words, table, store)?;
     }
+    Ok(())
 }

@@ -6,21 +6,29 @@ mod asked;
 mod built;
 
 use conditions::{Store, Table};
+use std::io;
+use std::io::{BufReader, BufWriter, Read, Write};
 use stored::{Item, Words, length};
 
 // Whether the words and the count a are a store in standard form, and the operations on it if they are.
-fn begin(x: Item, words: &mut [u32]) {
+fn begin<R: Read, W: Write>(
+    input: &mut R,
+    out: &mut W,
+    x: Item,
+    words: &mut [u32],
+) -> io::Result<()> {
     let standard = nodes::is_standard(words, x.a);
-    stored::word(standard as u32);
-    stored::bytes(b"\n");
+    stored::word(out, standard as u32)?;
+    stored::bytes(out, b"\n")?;
     if standard {
         let mut table: Table = [0; 32768];
         let s = Store {
             count: x.a,
             full: false,
         };
-        built::run(words, &mut table, s);
+        built::run(input, out, words, &mut table, s)?;
     }
+    Ok(())
 }
 
 // Clears the nodes from a on, if there are as many.
@@ -31,55 +39,73 @@ fn clear(x: Item, words: &mut [u32]) {
 }
 
 // An item on the first b words.
-fn lend(x: Item, words: &mut [u32]) {
+fn lend<R: Read, W: Write>(
+    input: &mut R,
+    out: &mut W,
+    x: Item,
+    words: &mut [u32],
+) -> io::Result<()> {
     let m = length(x.b, words.len());
     if x.kind == 3 {
         clear(x, &mut words[..m]);
-    } else {
-        begin(x, &mut words[..m]);
+        return Ok(());
     }
+    begin(input, out, x, &mut words[..m])
 }
 
 // So many words from place a on.
-fn show(a: u32, many: u32, words: &Words) {
+fn show<W: Write>(out: &mut W, a: u32, many: u32, words: &Words) -> io::Result<()> {
     let mut at = a;
-    let mut left = many;
-    while left > 0 {
+    for _ in 0..many {
         if at < 49160 {
-            stored::word(words[at as usize]);
+            stored::word(out, words[at as usize])?;
         }
-        at = std::num::wrapping_add_u32(at, 1);
-        left -= 1;
+        at = at.wrapping_add(1);
     }
-    stored::bytes(b"\n");
+    stored::bytes(out, b"\n")
 }
 
 // The capacity of so many words.
-fn capacity(many: u32) {
-    stored::word(nodes::capacity(many as usize));
-    stored::bytes(b"\n");
+fn capacity<W: Write>(out: &mut W, many: u32) -> io::Result<()> {
+    stored::word(out, nodes::capacity(many as usize))?;
+    stored::bytes(out, b"\n")
 }
 
 // 1 begins operations, 2 asks for a capacity, 3 clears, 4 shows words, 9 puts them.
-fn run(x: Item, words: &mut Words) {
+fn run<R: Read, W: Write>(
+    input: &mut R,
+    out: &mut W,
+    x: Item,
+    words: &mut Words,
+) -> io::Result<()> {
     let kind = x.kind;
     match kind {
-        2 => capacity(x.a),
-        4 => show(x.a, x.b, words),
-        9 => stored::put(x, words),
-        _ => lend(x, words),
+        2 => capacity(out, x.a),
+        4 => show(out, x.a, x.b, words),
+        9 => {
+            stored::put(x, words);
+            Ok(())
+        }
+        _ => lend(input, out, x, words),
     }
 }
 
-fn main() {
+// All items, on words of zeros at first.
+fn run_all<R: Read, W: Write>(input: &mut R, out: &mut W) -> io::Result<()> {
     let mut words: Words = [0; 49160];
-    let mut left: u32 = 1_000_000;
-    while left > 0 {
-        let x = stored::next();
+    for _ in 0..1_000_000 {
+        let x = stored::next(input)?;
         if x.kind == 0 {
-            return;
+            return Ok(());
         }
-        run(x, &mut words);
-        left -= 1;
+        run(input, out, x, &mut words)?;
     }
+    Ok(())
+}
+
+fn main(rt: HostRuntime) -> io::Result<()> {
+    let mut input = BufReader::new(rt.alloc(), rt.stdin())?;
+    let mut out = BufWriter::new(rt.alloc(), rt.stdout())?;
+    run_all(&mut input, &mut out)?;
+    out.flush()
 }

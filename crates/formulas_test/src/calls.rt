@@ -1,4 +1,6 @@
 // A call of a written formula on the buffers.
+use std::io;
+use std::io::Write;
 use stored::{Bytes, Item, RecordWords, Words, changed, length};
 
 // What a call returned, its out-words, which are 7 before, and the record.
@@ -99,19 +101,20 @@ fn lend(
 }
 
 // What a call returned and told.
-fn show(number: u32, done: Done) {
-    stored::bytes(b"call");
-    stored::word(number);
-    stored::word(done.row);
-    stored::wide(done.listed);
-    stored::wide(done.made);
-    stored::wide(done.place);
+fn show<W: Write>(out: &mut W, number: u32, done: Done) -> io::Result<()> {
+    stored::bytes(out, b"call")?;
+    stored::word(out, number)?;
+    stored::word(out, done.row)?;
+    stored::wide(out, done.listed)?;
+    stored::wide(out, done.made)?;
+    stored::wide(out, done.place)?;
     let record = done.record;
-    stored::record(&record);
+    stored::record(out, &record)
 }
 
 // A call and its line; the record after it.
-pub fn call(
+pub fn call<W: Write>(
+    out: &mut W,
     x: Item,
     r: RecordWords,
     nodes: &mut Words,
@@ -119,15 +122,15 @@ pub fn call(
     text: &Bytes,
     table: &Words,
     answer: &mut Words,
-) -> RecordWords {
+) -> io::Result<RecordWords> {
     let old_nodes = *nodes;
     let old_list = *list;
     let old_answer = *answer;
     let done = lend(x, r, nodes, list, text, table, answer);
-    show(x.g, done);
-    changed(b"; nodes ", &old_nodes, nodes);
-    changed(b"; list ", &old_list, list);
-    changed(b"; answer ", &old_answer, answer);
-    stored::bytes(b"\n");
-    done.record
+    show(out, x.g, done)?;
+    changed(out, b"; nodes ", &old_nodes, nodes)?;
+    changed(out, b"; list ", &old_list, list)?;
+    changed(out, b"; answer ", &old_answer, answer)?;
+    stored::bytes(out, b"\n")?;
+    Ok(done.record)
 }

@@ -4,6 +4,8 @@
 
 mod calls;
 
+use std::io;
+use std::io::{BufReader, BufWriter, Read, Write};
 use stored::{Bytes, Item, RecordWords, Words};
 
 // The first number says which buffer.
@@ -26,7 +28,8 @@ fn store(
 }
 
 // An item; the record after it.
-fn run(
+fn run<W: Write>(
+    out: &mut W,
     x: Item,
     r: RecordWords,
     nodes: &mut Words,
@@ -34,32 +37,32 @@ fn run(
     text: &mut Bytes,
     table: &mut Words,
     answer: &mut Words,
-) -> RecordWords {
+) -> io::Result<RecordWords> {
     if x.kind == 10 {
-        return [x.a, x.b, x.c, x.d, x.e, x.f];
+        return Ok([x.a, x.b, x.c, x.d, x.e, x.f]);
     }
     if x.kind == 9 {
         store(x, nodes, list, text, table, answer);
-        return r;
+        return Ok(r);
     }
-    calls::call(x, r, nodes, list, text, table, answer)
+    calls::call(out, x, r, nodes, list, text, table, answer)
 }
 
 // All items, on buffers of zeros at first.
-fn main() {
+fn run_all<R: Read, W: Write>(input: &mut R, out: &mut W) -> io::Result<()> {
     let mut r: RecordWords = [0; 6];
     let mut nodes: Words = [0; 49160];
     let mut list: Words = [0; 49160];
     let mut text: Bytes = [0; 65600];
     let mut table: Words = [0; 49160];
     let mut answer: Words = [0; 49160];
-    let mut left: u32 = 1_000_000;
-    while left > 0 {
-        let x = stored::next();
+    for _ in 0..1_000_000 {
+        let x = stored::next(input)?;
         if x.kind == 0 {
-            return;
+            return Ok(());
         }
-        let after = run(
+        r = run(
+            out,
             x,
             r,
             &mut nodes,
@@ -67,8 +70,14 @@ fn main() {
             &mut text,
             &mut table,
             &mut answer,
-        );
-        r = after;
-        left -= 1;
+        )?;
     }
+    Ok(())
+}
+
+fn main(rt: HostRuntime) -> io::Result<()> {
+    let mut input = BufReader::new(rt.alloc(), rt.stdin())?;
+    let mut out = BufWriter::new(rt.alloc(), rt.stdout())?;
+    run_all(&mut input, &mut out)?;
+    out.flush()
 }

@@ -4,6 +4,10 @@
 ghost use Rattle.std.specs.Prelude.{◌≤◌, length};
 ghost use Rattle.memcase.specs.Input.{Within};
 
+use std::env::FillError;
+use std::io::{Read, Write};
+use std::rt::Env;
+
 // How many bytes were read; or a read failed.
 #[derive(Clone, Copy)]
 pub enum Input {
@@ -12,49 +16,53 @@ pub enum Input {
 }
 
 // Reads until the buffer is full or the input ends.
-fn read_input(buf: &mut [u8]) -> Input
+fn read_input<R: Read>(input: &mut R, buf: &mut [u8]) -> Input
     ensures { Within result (length buf.new) }
 {
     let mut n: usize = 0;
     while n < buf.len() {
-        let got = libc::read(libc::STDIN_FILENO, &mut buf[n..]);
-        if got < 0 {
-            return Input::Failed;
+        match input.read(&mut buf[n..]) {
+            Ok(0) => return Input::Bytes(n),
+            Ok(more) => n += more,
+            Err(_) => return Input::Failed,
         }
-        let more = io::count(got, &buf[n..]);
-        if more == 0 {
-            return Input::Bytes(n);
-        }
-        n += more;
     }
     Input::Bytes(n)
 }
 
-fn tell(fault: &[u8]) {
-    io::write_all(libc::STDERR_FILENO, fault);
+fn tell<R: Eprint>(rt: &R, fault: &str) {
+    let _ = rt.eprintln(fault);
 }
 
 // Runs a case, and prints it.
-fn judge(case: &[u8]) {
+fn judge<R: Print + Eprint>(rt: &R, case: &[u8]) {
     let mut words = [0u32; 16384];
     let mut list = [0u32; 16384];
-    let mut text = io::large_buffer();
+    let mut text = [0u8; 65536];
     let t = casefile::print_case(case, &mut words, &mut list, &mut text);
     let end = t.at;
-    if !io::write_all(libc::STDOUT_FILENO, &text[..end]) {
-        tell(b"memcase: standard output cannot be written\n");
+    if rt.write_all(&text[..end]).is_err() {
+        tell(rt, "memcase: standard output cannot be written");
     }
 }
 
-fn main() {
-    if os::arg_count() > 1 {
-        tell(b"memcase: takes no argument, and reads the case from standard input\n");
+// Whether an argument is given after the program's name.
+fn has_argument<R: Env>(rt: &R) -> bool {
+    !matches!(rt.arg(1, &mut []), Err(FillError::NotPresent))
+}
+
+fn main(rt: HostRuntime) {
+    if has_argument(&rt) {
+        tell(
+            &rt,
+            "memcase: takes no argument, and reads the case from standard input",
+        );
         return;
     }
-    let mut case = io::large_buffer();
-    let input = read_input(&mut case);
+    let mut case = [0u8; 65536];
+    let input = read_input(&mut rt.stdin(), &mut case);
     match input {
-        Input::Bytes(n) => judge(&case[..n]),
-        Input::Failed => tell(b"memcase: standard input cannot be read\n"),
+        Input::Bytes(n) => judge(&rt, &case[..n]),
+        Input::Failed => tell(&rt, "memcase: standard input cannot be read"),
     }
 }

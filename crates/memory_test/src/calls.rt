@@ -1,5 +1,7 @@
 // A call of the model on the buffers.
 use called::Done;
+use std::io;
+use std::io::Write;
 use stored::{Item, RecordWords, Words, changed, changed_ports, length};
 
 // An access that is lent so many node words and list words.
@@ -65,17 +67,17 @@ fn repeat(
         out: 7,
         record: r,
     };
-    let mut left = if x.kind == 2 { 1 } else { x.f };
-    while left > 0 {
+    let times = if x.kind == 2 { 1 } else { x.f };
+    for _ in 0..times {
         let record = done.record;
         done = once(x, record, nodes, list, ports, enable, address, data);
-        left -= 1;
     }
     done
 }
 
 // A call and its line; the record after it.
-pub fn call(
+pub fn call<W: Write>(
+    out: &mut W,
     x: Item,
     r: RecordWords,
     nodes: &mut Words,
@@ -84,22 +86,22 @@ pub fn call(
     enable: &Words,
     address: &Words,
     data: &mut Words,
-) -> RecordWords {
+) -> io::Result<RecordWords> {
     let old_nodes = *nodes;
     let old_list = *list;
     let old_data = *data;
     let old_ports = *ports;
     let done = repeat(x, r, nodes, list, ports, enable, address, data);
-    stored::bytes(b"call");
-    stored::word(x.g);
-    stored::word(done.row);
-    stored::word(done.out);
+    stored::bytes(out, b"call")?;
+    stored::word(out, x.g)?;
+    stored::word(out, done.row)?;
+    stored::word(out, done.out)?;
     let record = done.record;
-    stored::record(&record);
-    changed(b"; nodes ", &old_nodes, nodes);
-    changed(b"; list ", &old_list, list);
-    changed(b"; data ", &old_data, data);
-    changed_ports(b"; ports ", &old_ports, ports);
-    stored::bytes(b"\n");
-    record
+    stored::record(out, &record)?;
+    changed(out, b"; nodes ", &old_nodes, nodes)?;
+    changed(out, b"; list ", &old_list, list)?;
+    changed(out, b"; data ", &old_data, data)?;
+    changed_ports(out, b"; ports ", &old_ports, ports)?;
+    stored::bytes(out, b"\n")?;
+    Ok(record)
 }

@@ -4,6 +4,8 @@
 
 mod calls;
 
+use std::io;
+use std::io::{BufReader, BufWriter, Read, Write};
 use stored::{Item, RecordWords, Words};
 
 // The first number says which buffer.
@@ -28,7 +30,8 @@ fn store(
 }
 
 // An item; the record after it.
-fn run(
+fn run<W: Write>(
+    out: &mut W,
     x: Item,
     r: RecordWords,
     nodes: &mut Words,
@@ -37,19 +40,19 @@ fn run(
     address: &mut Words,
     data: &mut Words,
     ports: &mut [u32; 128],
-) -> RecordWords {
+) -> io::Result<RecordWords> {
     if x.kind == 10 {
-        return [x.a, x.b, x.c, x.d, x.e, x.f];
+        return Ok([x.a, x.b, x.c, x.d, x.e, x.f]);
     }
     if x.kind == 9 {
         store(x, nodes, list, control, address, data, ports);
-        return r;
+        return Ok(r);
     }
-    calls::call(x, r, nodes, list, ports, control, address, data)
+    calls::call(out, x, r, nodes, list, ports, control, address, data)
 }
 
 // All items, on buffers of zeros at first.
-fn main() {
+fn run_all<R: Read, W: Write>(input: &mut R, out: &mut W) -> io::Result<()> {
     let mut r: RecordWords = [0; 6];
     let mut nodes: Words = [0; 49160];
     let mut list: Words = [0; 49160];
@@ -57,13 +60,13 @@ fn main() {
     let mut address: Words = [0; 49160];
     let mut data: Words = [0; 49160];
     let mut ports: [u32; 128] = [0; 128];
-    let mut left: u32 = 1_000_000;
-    while left > 0 {
-        let x = stored::next();
+    for _ in 0..1_000_000 {
+        let x = stored::next(input)?;
         if x.kind == 0 {
-            return;
+            return Ok(());
         }
-        let after = run(
+        r = run(
+            out,
             x,
             r,
             &mut nodes,
@@ -72,8 +75,14 @@ fn main() {
             &mut address,
             &mut data,
             &mut ports,
-        );
-        r = after;
-        left -= 1;
+        )?;
     }
+    Ok(())
+}
+
+fn main(rt: HostRuntime) -> io::Result<()> {
+    let mut input = BufReader::new(rt.alloc(), rt.stdin())?;
+    let mut out = BufWriter::new(rt.alloc(), rt.stdout())?;
+    run_all(&mut input, &mut out)?;
+    out.flush()
 }

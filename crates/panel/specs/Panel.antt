@@ -4,7 +4,7 @@
 -- by calls of the system. The functions for C have contracts of their own, over the same definitions (`record_words`, `formula_words`, `capi_nodes`, `capi`, `capi_cases`).
 use Rattle.std.specs.Prelude.{◌≡◌, ◌↔◌, List, [], ◌∷◌, ℕ, ◌^◌, ◌<◌}
 use contract.Lifetimes.{Lfts}
-use Rattle.std.specs.Borrow.{Bor}
+use Rattle.std.specs.Borrow.{Bor, MutBor}
 use Rattle.conditions.specs.Stores.{Standard}
 use Rattle.conditions.specs.Assignment.{bit_at}
 use Rattle.conditions.specs.Show.{text_of, Alike}
@@ -78,28 +78,32 @@ pub record FunctionsMeet : Type 2 where
   pub check-formula-meets : {M : Type 1} → checkFormula.statement M
   pub run_case-meets : {M : Type 1} → runCase.statement M
 
--- words that a caller lends, before a call and, with ', after it
+-- words that a caller lends to be read
 abbrev Lent : Type 0
 Lent = Bor (List ℕ)
 
+-- words that a caller lends to be changed, before a call and, with ', after it
+abbrev Changed : Type 0
+Changed = MutBor (List ℕ)
+
 -- "the caller tests nothing beforehand": what a function asks of its caller (`Pre`) holds of all arguments
 pub record NothingAsked : Type 0 where
-  pub fresh_asks : (κs : Lfts 2) (self : Memory) (words ports : Lent) (z : Sizes) → Fresh.Pre κs (self, (words, (ports, (z, tt))))
+  pub fresh_asks : (κs : Lfts 2) (self : Memory) (words ports : Changed) (z : Sizes) → Fresh.Pre κs (self, (words, (ports, (z, tt))))
   pub evaluate_asks : (κs : Lfts 1) (self : Memory) (words : Lent) (f a : ℕ) → Evaluate.Pre κs (self, (words, (f, (a, tt))))
-  pub variable_asks : (κs : Lfts 1) (self : Memory) (words : Lent) (v : ℕ) → Variable.Pre κs (self, (words, (v, tt)))
-  pub ite_asks : (κs : Lfts 1) (self : Memory) (words : Lent) (f g h : ℕ) → Ite.Pre κs (self, (words, (f, (g, (h, tt)))))
-  pub write_asks : (κs : Lfts 5) (self : Memory) (words list enable address «data» : Lent) → Write.Pre κs (self, (words, (list, (enable, (address, («data», tt))))))
-  pub read_asks : (κs : Lfts 6) (self : Memory) (words list ports : Lent) (port : ℕ) (enable address out : Lent) → Read.Pre κs (self, (words, (list, (ports, (port, (enable, (address, (out, tt))))))))
-  pub assert_asks : (κs : Lfts 4) (self : Memory) (words list : Lent) (b : ControlNode) (address «data» : Lent) → Assert.Pre κs (self, (words, (list, (b, (address, («data», tt))))))
-  pub check_asks : (κs : Lfts 4) (self : Memory) (words list : Lent) (b : ControlNode) (address «data» : Lent) → Check.Pre κs (self, (words, (list, (b, (address, («data», tt))))))
-  pub assert-formula_asks : (κs : Lfts 5) (self : Memory) (words list text table out : Lent) → AssertFormula.Pre κs (self, (words, (list, (text, (table, (out, tt))))))
-  pub check-formula_asks : (κs : Lfts 5) (self : Memory) (words list text table out : Lent) → CheckFormula.Pre κs (self, (words, (list, (text, (table, (out, tt))))))
-  pub run_case_asks : (κs : Lfts 4) (file words list text : Lent) → RunCase.Pre κs (file, (words, (list, (text, tt))))
+  pub variable_asks : (κs : Lfts 1) (self : Memory) (words : Changed) (v : ℕ) → Variable.Pre κs (self, (words, (v, tt)))
+  pub ite_asks : (κs : Lfts 1) (self : Memory) (words : Changed) (f g h : ℕ) → Ite.Pre κs (self, (words, (f, (g, (h, tt)))))
+  pub write_asks : (κs : Lfts 5) (self : Memory) (words list enable address «data» : Changed) → Write.Pre κs (self, (words, (list, (enable, (address, («data», tt))))))
+  pub read_asks : (κs : Lfts 6) (self : Memory) (words : Changed) (list : Lent) (ports : Changed) (port : ℕ) (enable address : Lent) (out : Changed) → Read.Pre κs (self, (words, (list, (ports, (port, (enable, (address, (out, tt))))))))
+  pub assert_asks : (κs : Lfts 4) (self : Memory) (words list : Changed) (b : ControlNode) (address «data» : Lent) → Assert.Pre κs (self, (words, (list, (b, (address, («data», tt))))))
+  pub check_asks : (κs : Lfts 4) (self : Memory) (words : Changed) (list : Lent) (b : ControlNode) (address «data» : Lent) → Check.Pre κs (self, (words, (list, (b, (address, («data», tt))))))
+  pub assert-formula_asks : (κs : Lfts 5) (self : Memory) (words list : Changed) (text table : Lent) (out : Changed) → AssertFormula.Pre κs (self, (words, (list, (text, (table, (out, tt))))))
+  pub check-formula_asks : (κs : Lfts 5) (self : Memory) (words : Changed) (list text table : Lent) (out : Changed) → CheckFormula.Pre κs (self, (words, (list, (text, (table, (out, tt))))))
+  pub run_case_asks : (κs : Lfts 4) (file : Lent) (words list text : Changed) → RunCase.Pre κs (file, (words, (list, (text, tt))))
 
 abbrev link : Call → Answer → State → AnyLink
 link c a t = call (record { call = c; answer = a; after = t })
 
-abbrev formula_link : Making → Lent → Lent → Lent → FormulaResult → State → Lent → AnyLink
+abbrev formula_link : Making → Lent → Lent → Changed → FormulaResult → State → Changed → AnyLink
 formula_link k text table out r t out' = formula (record { making = k; text = text.now; table = table.now; out = out.now; answer = answer_of r.answer; after = t; words = out'.now })
 
 -- A call of the library that ran in a state: what its contract (`Post`) says of what it was lent, what it answered and what it left. What it was not lent stays.
@@ -107,32 +111,32 @@ pub data Ran : State → AnyLink → Type 0 where
   evaluates : (κs : Lfts 1) (self : Memory) (words : Lent) (f a : ℕ) (r : ValueResult) (list ports : List ℕ)
       → Evaluate.Post κs (self, (words, (f, (a, tt)))) r (self, (words, (f, (a, tt))))
       → Ran (state_of self words.now list ports) (link (node_call (model.evaluate f a)) (value_answer r.answer) (state_of r.after words.now list ports))
-  gives : (κs : Lfts 1) (self : Memory) (words : Lent) (v : ℕ) (r : NodeResult) (words' : Lent) (list ports : List ℕ)
+  gives : (κs : Lfts 1) (self : Memory) (words : Changed) (v : ℕ) (r : NodeResult) (words' : Changed) (list ports : List ℕ)
       → Variable.Post κs (self, (words, (v, tt))) r (self, (words', (v, tt)))
       → Ran (state_of self words.now list ports) (link (node_call (model.variable v)) (node_answer r.answer) (state_of r.after words'.now list ports))
-  builds : (κs : Lfts 1) (self : Memory) (words : Lent) (f g h : ℕ) (r : NodeResult) (words' : Lent) (list ports : List ℕ)
+  builds : (κs : Lfts 1) (self : Memory) (words : Changed) (f g h : ℕ) (r : NodeResult) (words' : Changed) (list ports : List ℕ)
       → Ite.Post κs (self, (words, (f, (g, (h, tt))))) r (self, (words', (f, (g, (h, tt)))))
       → Ran (state_of self words.now list ports) (link (node_call (model.ite f g h)) (node_answer r.answer) (state_of r.after words'.now list ports))
-  writes : (κs : Lfts 5) (self : Memory) (words list enable address «data» : Lent) (r : WriteResult) (words' list' : Lent) (ports : List ℕ)
+  writes : (κs : Lfts 5) (self : Memory) (words list : Changed) (enable address «data» : Lent) (r : WriteResult) (words' list' : Changed) (ports : List ℕ)
       → Write.Post κs (self, (words, (list, (enable, (address, («data», tt)))))) r (self, (words', (list', (enable, (address, («data», tt))))))
       → Ran (state_of self words.now list.now ports)
       (link (access (model.write enable.now address.now «data».now)) (write_answer r.answer) (state_of r.after words'.now list'.now ports))
-  reads : (κs : Lfts 6) (self : Memory) (words list ports : Lent) (port : ℕ) (enable address out : Lent) (r : ReadResult) (words' ports' out' : Lent)
+  reads : (κs : Lfts 6) (self : Memory) (words : Changed) (list : Lent) (ports : Changed) (port : ℕ) (enable address : Lent) (out : Changed) (r : ReadResult) (words' ports' out' : Changed)
       → Read.Post κs (self, (words, (list, (ports, (port, (enable, (address, (out, tt)))))))) r (self, (words', (list, (ports', (port, (enable, (address, (out', tt))))))))
       → Ran (state_of self words.now list.now ports.now)
       (link (access (model.read port enable.now address.now out.now)) (read_answer r.answer out'.now) (state_of r.after words'.now list.now ports'.now))
-  asserts : (κs : Lfts 4) (self : Memory) (words list : Lent) (b : ControlNode) (address «data» : Lent) (r : AssertResult) (words' list' : Lent) (ports : List ℕ)
+  asserts : (κs : Lfts 4) (self : Memory) (words list : Changed) (b : ControlNode) (address «data» : Lent) (r : AssertResult) (words' list' : Changed) (ports : List ℕ)
       → Assert.Post κs (self, (words, (list, (b, (address, («data», tt)))))) r (self, (words', (list', (b, (address, («data», tt))))))
       → Ran (state_of self words.now list.now ports)
       (link (access (model.assert b.0 address.now «data».now)) (assert_answer r.answer) (state_of r.after words'.now list'.now ports))
-  checks : (κs : Lfts 4) (self : Memory) (words list : Lent) (b : ControlNode) (address «data» : Lent) (r : CheckResult) (words' : Lent) (ports : List ℕ)
+  checks : (κs : Lfts 4) (self : Memory) (words : Changed) (list : Lent) (b : ControlNode) (address «data» : Lent) (r : CheckResult) (words' : Changed) (ports : List ℕ)
       → Check.Post κs (self, (words, (list, (b, (address, («data», tt)))))) r (self, (words', (list, (b, (address, («data», tt))))))
       → Ran (state_of self words.now list.now ports)
       (link (access (model.check b.0 address.now «data».now)) (check_answer r.answer) (state_of r.after words'.now list.now ports))
-  asserts_formula : (κs : Lfts 5) (self : Memory) (words list text table out : Lent) (r : FormulaResult) (words' list' out' : Lent) (ports : List ℕ)
+  asserts_formula : (κs : Lfts 5) (self : Memory) (words list : Changed) (text table : Lent) (out : Changed) (r : FormulaResult) (words' list' out' : Changed) (ports : List ℕ)
       → AssertFormula.Post κs (self, (words, (list, (text, (table, (out, tt)))))) r (self, (words', (list', (text, (table, (out', tt))))))
       → Ran (state_of self words.now list.now ports) (formula_link asserting text table out r (state_of r.after words'.now list'.now ports) out')
-  checks_formula : (κs : Lfts 5) (self : Memory) (words list text table out : Lent) (r : FormulaResult) (words' out' : Lent) (ports : List ℕ)
+  checks_formula : (κs : Lfts 5) (self : Memory) (words : Changed) (list text table : Lent) (out : Changed) (r : FormulaResult) (words' out' : Changed) (ports : List ℕ)
       → CheckFormula.Post κs (self, (words, (list, (text, (table, (out, tt)))))) r (self, (words', (list, (text, (table, (out', tt))))))
       → Ran (state_of self words.now list.now ports) (formula_link checking text table out r (state_of r.after words'.now list.now ports) out')
 
@@ -143,13 +147,13 @@ AllRan s (k ∷ ks) = Ran s k × AllRan (after_link k) ks
 
 -- "The first gets the record and node words that an accepted Fresh left, and a list of any words, for any n, w and sizes"
 pub data Begun : Sizes → State → Type 0 where
-  begins : (κs : Lfts 2) (self : Memory) (words ports : Lent) (z : Sizes) (r : FreshResult) (words' ports' : Lent) (list : List ℕ)
+  begins : (κs : Lfts 2) (self : Memory) (words ports : Changed) (z : Sizes) (r : FreshResult) (words' ports' : Changed) (list : List ℕ)
       → Fresh.Post κs (self, (words, (ports, (z, tt)))) r (self, (words', (ports', (z, tt)))) → fresh_answer r.answer ≡ model.done model.accepted
       → Begun z (state_of r.after words'.now list ports'.now)
 
 -- A case that ran: the file, what was lent for node words, list and text, and what the call answered and left
 pub data CaseRan : List ℕ → List ℕ → List ℕ → List ℕ → Case → Type 0 where
-  runs : (κs : Lfts 4) (file words list text : Lent) (r : CaseAnswer) (words' list' text' : Lent)
+  runs : (κs : Lfts 4) (file : Lent) (words list text : Changed) (r : CaseAnswer) (words' list' text' : Changed)
       → RunCase.Post κs (file, (words, (list, (text, tt)))) r (file, (words', (list', (text', tt))))
       → CaseRan file.now words.now list.now text.now (case_as r words'.now list'.now text'.now)
 
@@ -157,7 +161,7 @@ pub data CaseRan : List ℕ → List ℕ → List ℕ → List ℕ → Case → 
 -- refused call returns its row's number and leaves those words as 01 says": where each row is met, as facts in the papers' own numerals, and what is then left; and of Fresh
 pub record Demand1 : Type 0 where
   pub each-call : (s : State) (k : AnyLink) → Ran s k → AnswersLink s k
-  pub answer-words : (κs : Lfts 6) (self : Memory) (words list ports : Lent) (port : ℕ) (enable address out : Lent) (r : ReadResult) (words' ports' out' : Lent)
+  pub answer-words : (κs : Lfts 6) (self : Memory) (words : Changed) (list : Lent) (ports : Changed) (port : ℕ) (enable address : Lent) (out : Changed) (r : ReadResult) (words' ports' out' : Changed)
       → Read.Post κs (self, (words, (list, (ports, (port, (enable, (address, (out, tt)))))))) r (self, (words', (list, (ports', (port, (enable, (address, (out', tt))))))))
       → out'.now ≡ answer_words (read_answer r.answer out'.now) out.now
   pub accepted : AcceptedExactly

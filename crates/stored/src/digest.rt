@@ -11,20 +11,16 @@ fn add_byte(digest: u64, byte: u8) -> u64 {
 // From a place on.
 pub fn digest_words(s: &[u32], from: usize) -> u64 {
     let mut digest: u64 = 0;
-    let mut i = from;
-    while i < s.len() {
+    for i in from..s.len() {
         digest = add_word(digest, s[i]);
-        i += 1;
     }
     digest
 }
 
 pub fn digest_bytes(s: &[u8]) -> u64 {
     let mut digest: u64 = 0;
-    let mut i: usize = 0;
-    while i < s.len() {
-        digest = add_byte(digest, s[i]);
-        i += 1;
+    for byte in s {
+        digest = add_byte(digest, *byte);
     }
     digest
 }

@@ -4,10 +4,13 @@
 mod changes;
 mod digest;
 
-ghost use Rattle.std.specs.Prelude.{◌≤◌};
+ghost use Rattle.std.specs.Prelude.{◌≡◌, ◌≤◌, ◌∷◌, ◌+◌, ◌*◌, length, decimal, IfOk, OnOk};
+ghost use Rattle.std.specs.Io.KnownBytes.{Appends};
 
 pub use changes::{changed, changed_ports};
 pub use digest::{digest_bytes, digest_words};
+use std::io;
+use std::io::{Read, Write};
 
 pub type Words = [u32; 49160];
 
@@ -26,28 +29,45 @@ pub struct Item {
     pub g: u32,
 }
 
-fn joined(a: u8, b: u8, c: u8, d: u8) -> u32 {
+// Reads until buf is full or the input ends, and returns how many bytes it put at the start of buf.
+pub fn read_full<R: Read>(input: &mut R, buf: &mut [u8]) -> io::Result<usize>
+    ensures { IfOk result (λ n. n ≤ length buf.new) }
+{
+    let mut done: usize = 0;
+    while done < buf.len() {
+        let more = input.read(&mut buf[done..])?;
+        if more == 0 {
+            break;
+        }
+        done += more;
+    }
+    Ok(done)
+}
+
+fn joined(a: u8, b: u8, c: u8, d: u8) -> u32
+    ensures { result ≡ a + 256 * b + 65536 * c + 16777216 * d }
+{
     a as u32 + 256 * (b as u32) + 65536 * (c as u32) + 16777216 * (d as u32)
 }
 
 // The next number, 0 past the end.
-pub fn number() -> u32 {
+pub fn number<R: Read>(input: &mut R) -> io::Result<u32> {
     let mut b = [0u8; 4];
-    io::read_full(libc::STDIN_FILENO, &mut b);
-    joined(b[0], b[1], b[2], b[3])
+    read_full(input, &mut b)?;
+    Ok(joined(b[0], b[1], b[2], b[3]))
 }
 
-pub fn next() -> Item {
-    Item {
-        kind: number(),
-        a: number(),
-        b: number(),
-        c: number(),
-        d: number(),
-        e: number(),
-        f: number(),
-        g: number(),
-    }
+pub fn next<R: Read>(input: &mut R) -> io::Result<Item> {
+    Ok(Item {
+        kind: number(input)?,
+        a: number(input)?,
+        b: number(input)?,
+        c: number(input)?,
+        d: number(input)?,
+        e: number(input)?,
+        f: number(input)?,
+        g: number(input)?,
+    })
 }
 
 // Puts a word at a place, if there is one.
@@ -62,12 +82,10 @@ fn put_word(to: &mut [u32], at: u32, word: u32) {
 pub fn put(x: Item, to: &mut [u32]) {
     let mut at = x.b;
     let mut word = x.e;
-    let mut left = x.c;
-    while left > 0 {
+    for _ in 0..x.c {
         put_word(to, at, word);
-        at = std::num::wrapping_add_u32(at, x.d);
-        word = std::num::wrapping_add_u32(word, x.f);
-        left -= 1;
+        at = at.wrapping_add(x.d);
+        word = word.wrapping_add(x.f);
     }
 }
 
@@ -83,12 +101,10 @@ fn put_byte(to: &mut [u8], at: u32, number: u32) {
 pub fn put_bytes(x: Item, to: &mut [u8]) {
     let mut at = x.b;
     let mut word = x.e;
-    let mut left = x.c;
-    while left > 0 {
+    for _ in 0..x.c {
         put_byte(to, at, word);
-        at = std::num::wrapping_add_u32(at, x.d);
-        word = std::num::wrapping_add_u32(word, x.f);
-        left -= 1;
+        at = at.wrapping_add(x.d);
+        word = word.wrapping_add(x.f);
     }
 }
 
@@ -100,32 +116,37 @@ pub fn length(x: u32, most: usize) -> usize
     if k < most { k } else { most }
 }
 
-pub fn bytes(s: &[u8]) {
-    io::write_all(libc::STDOUT_FILENO, s);
+pub fn bytes<W: Write>(out: &mut W, s: &[u8]) -> io::Result<()>
+    ensures { OnOk result (Appends (W.contents out.old) (W.contents out.new) s.now) }
+{
+    out.write_all(s)
 }
 
-pub fn decimal(x: u64) {
-    io::print_decimal(libc::STDOUT_FILENO, x);
+pub fn decimal<W: Write>(out: &mut W, x: u64) -> io::Result<()>
+    ensures { OnOk result (Appends (W.contents out.old) (W.contents out.new) (decimal x)) }
+{
+    write!(out, "{x}")
 }
 
 // A number after a space.
-pub fn wide(x: u64) {
-    bytes(b" ");
-    decimal(x);
+pub fn wide<W: Write>(out: &mut W, x: u64) -> io::Result<()>
+    ensures { OnOk result (Appends (W.contents out.old) (W.contents out.new) (32 ∷ decimal x)) }
+{
+    write!(out, " {x}")
 }
 
-pub fn word(x: u32) {
-    wide(x as u64);
+pub fn word<W: Write>(out: &mut W, x: u32) -> io::Result<()>
+    ensures { OnOk result (Appends (W.contents out.old) (W.contents out.new) (32 ∷ decimal x)) }
+{
+    wide(out, x as u64)
 }
 
 // The words of a record.
 pub type RecordWords = [u32; 6];
 
-pub fn record(r: &RecordWords) {
-    word(r[0]);
-    word(r[1]);
-    word(r[2]);
-    word(r[3]);
-    word(r[4]);
-    word(r[5]);
+pub fn record<W: Write>(out: &mut W, r: &RecordWords) -> io::Result<()> {
+    for x in r {
+        word(out, *x)?;
+    }
+    Ok(())
 }
