@@ -92,7 +92,7 @@ pub record NothingAsked : Type 0 where
   pub evaluate_asks : (κs : Lfts 1) (self : Memory) (words : Lent) (f a : ℕ) → Evaluate.Pre κs (self, (words, (f, (a, tt))))
   pub variable_asks : (κs : Lfts 1) (self : Memory) (words : Changed) (v : ℕ) → Variable.Pre κs (self, (words, (v, tt)))
   pub ite_asks : (κs : Lfts 1) (self : Memory) (words : Changed) (f g h : ℕ) → Ite.Pre κs (self, (words, (f, (g, (h, tt)))))
-  pub write_asks : (κs : Lfts 5) (self : Memory) (words list enable address «data» : Changed) → Write.Pre κs (self, (words, (list, (enable, (address, («data», tt))))))
+  pub write_asks : (κs : Lfts 5) (self : Memory) (words list : Changed) (enable address «data» : Lent) → Write.Pre κs (self, (words, (list, (enable, (address, («data», tt))))))
   pub read_asks : (κs : Lfts 6) (self : Memory) (words : Changed) (list : Lent) (ports : Changed) (port : ℕ) (enable address : Lent) (out : Changed) → Read.Pre κs (self, (words, (list, (ports, (port, (enable, (address, (out, tt))))))))
   pub assert_asks : (κs : Lfts 4) (self : Memory) (words list : Changed) (b : ControlNode) (address «data» : Lent) → Assert.Pre κs (self, (words, (list, (b, (address, («data», tt))))))
   pub check_asks : (κs : Lfts 4) (self : Memory) (words : Changed) (list : Lent) (b : ControlNode) (address «data» : Lent) → Check.Pre κs (self, (words, (list, (b, (address, («data», tt))))))
