@@ -64,7 +64,7 @@ fn narrow_bit(
     requires { Sound words.old table.old s × (i < 64) × (a.h.0 < s.count) × (a.l.0 < s.count) × (m < s.count) }
     ensures { Did s words.new table.new result (narrow_bit i a.h.0 a.l.0 m words.old s) }
 {
-    let x = conditions::index(words, table, s, i);
+    let x = conditions::variable(words, table, s, i);
     let t = conditions::ite(words, table, x.store, x.node, a.h.0, a.l.0);
     conditions::and(words, table, t.store, m, t.node)
 }

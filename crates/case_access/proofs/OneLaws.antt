@@ -26,37 +26,38 @@ use Rattle.model.specs.Step.{State, Call, Answer, step}
 use Rattle.model.specs.Frames.{Valid, PortsValid, PortsStayValid}
 use Rattle.model.proofs.FrameLaws.{ports_stay-valid}
 
-module _ (file : List ℕ) (c : Running) (p : Progress) (F : Finds p file c.at c.state.rec.sizes) where
+module _ (file : List ℕ) (c : Running) (p : Progress) (F : Finds p file c.at c.state.rec.sizes.n c.state.rec.sizes.w) where
   pub one-missing : {k : ℕ} → p.access ≡ access.Refused k → stops k ≡ one file c
   unfolding one
-  one-missing {k} e = go (access_at file c.at c.state.rec.sizes) (sym e ∙ F.0)
+  one-missing {k} e = go (access_at file c.at c.state.rec.sizes.n c.state.rec.sizes.w) (sym e ∙ F.0)
     where
-      go : (x : Found) → access.Refused k ≡ answer_of file c.at x → stops k ≡ done_as x (goes_on_from x (end_of file c.at c.state.rec.sizes) c.at) c.state c.text
+      go : (x : Found) → access.Refused k ≡ answer_of file c.at x → stops k ≡ done_as x (goes_on_from x (end_of file c.at c.state.rec.sizes.n c.state.rec.sizes.w) c.at) c.state c.text
       go (found kind values) z = let u : ◌≡◌ {A = ℕ} 0 1 = cc in absurd (omega arith)
       go (accesses.refused i) z = let u : k ≡ i = cc in ap stops u
 
   -- the call by the nodes from a byte on
   abbrev called_by : Kind → ℕ → ℕ → ℕ → Call
-  called_by k q from size = call_of k c.state.rec.sizes (told k c.state.rec.sizes q (numbers_at file from size))
+  called_by k q from size = call_of k c.state.rec.sizes.w (told k c.state.rec.sizes.n c.state.rec.sizes.w q (numbers_at file from size))
 
   one_here : {k : Kind} {q from : ℕ} → p.access ≡ access.Here k q from
-      → done (called_by k q from (size_of k c.state.rec.sizes)) c.state p.at c.text ≡ one file c
+      → done (called_by k q from (size_of k c.state.rec.sizes.n c.state.rec.sizes.w)) c.state p.at c.text ≡ one file c
   unfolding one
   one_here {k} {q} {from} e =
-      let z = c.state.rec.sizes in
-      let S = access_here file c.at z e F.0 in
+      let n = c.state.rec.sizes.n in
+      let w = c.state.rec.sizes.w in
+      let S = access_here file c.at n w e F.0 in
       let port : q ≡ port_of k (get_or file (c.at + 1) 0) = S.port_is ∙ ap (λ (x : Kind). port_of x (get_or file (c.at + 1) 0)) (sym S.kind_is) in
       let begin : from ≡ c.at + 1 + lead_of k = S.from_is ∙ ap (λ (x : Kind). c.at + 1 + lead_of x) (sym S.kind_is) in
-      let fields : call_of k z (values_at file (c.at + 1) (fields_of k z)) ≡ call_of k z (held_at file c.at z) = ap (λ (x : Kind). call_of k z (values_at file (c.at + 1) (fields_of x z))) S.kind_is in
-      let call : called_by k q from (size_of k z) ≡ call_of k z (held_at file c.at z) = (λ i. called_by k (port i) (begin i) (size_of k z)) ∙ call-told file (c.at + 1) z k ∙ fields in
+      let fields : call_of k w (values_at file (c.at + 1) (fields_of k n w)) ≡ call_of k w (held_at file c.at n w) = ap (λ (x : Kind). call_of k w (values_at file (c.at + 1) (fields_of x n w))) S.kind_is in
+      let call : called_by k q from (size_of k n w) ≡ call_of k w (held_at file c.at n w) = (λ i. called_by k (port i) (begin i) (size_of k n w)) ∙ call-told file (c.at + 1) n w k ∙ fields in
       ap (λ (x : Call). done x c.state p.at c.text) call
       ∙ ap (λ (x : Found). done_as x p.at c.state c.text) (sym S.is)
-      ∙ ap (λ (i : ℕ). done_as (access_at file c.at z) i c.state c.text) F.1
+      ∙ ap (λ (i : ℕ). done_as (access_at file c.at n w) i c.state c.text) F.1
 
-  pub step_here : {k : Kind} {q from : ℕ} → p.access ≡ access.Here k q from → (size : ℕ) → size ≡ size_of k c.state.rec.sizes → {r : Step} {w l b table ps : List ℕ}
+  pub step_here : {k : Kind} {q from : ℕ} → p.access ≡ access.Here k q from → (size : ℕ) → size ≡ size_of k c.state.rec.sizes.n c.state.rec.sizes.w → {r : Step} {w l b table ps : List ℕ}
       → StepAs r w l b table ps (done (called_by k q from size) c.state p.at c.text) → StepAs r w l b table ps (one file c)
-  step_here {k} {q} {from} e size u {r} {w} {l} {b} {table} {ps} C =
-      subst (StepAs r w l b table ps) (ap (λ (i : ℕ). done (called_by k q from i) c.state p.at c.text) u ∙ one_here e) C
+  step_here {k} {q} {from} e size z {r} {w} {l} {b} {table} {ps} C =
+      subst (StepAs r w l b table ps) (ap (λ (i : ℕ). done (called_by k q from i) c.state p.at c.text) z ∙ one_here e) C
 
 -- after an access row 3 refuses no port to a read, where it refused none before
 abbrev NextPorts : Next → Type 0

@@ -27,8 +27,8 @@ fn do_access(
     c: Run,
     ops: &[u32],
 ) -> Step
-    requires { Ready c.memory words.old list.old table.old × PortsValid (state_of c.memory words.old list.old ports.old) × (is_known kind ≡ true) × (length ops.now ≡ size_of kind c.memory.fields.sizes) }
-    ensures { StepAs result words.new list.new buf.new table.new ports.new (done (call_of kind c.memory.fields.sizes (told kind c.memory.fields.sizes port ops.now)) (state_of c.memory words.old list.old ports.old) c.at (out buf.old c.text)) }
+    requires { Ready c.memory words.old list.old table.old × PortsValid (state_of c.memory words.old list.old ports.old) × (is_known kind ≡ true) × (length ops.now ≡ size_of kind c.memory.fields.sizes.n c.memory.fields.sizes.w) }
+    ensures { StepAs result words.new list.new buf.new table.new ports.new (done (call_of kind c.memory.fields.sizes.w (told kind c.memory.fields.sizes.n c.memory.fields.sizes.w port ops.now)) (state_of c.memory words.old list.old ports.old) c.at (out buf.old c.text)) }
 {
     match kind {
         Kind::Write => case_entries::do_write(words, list, table, buf, c, ops),
@@ -53,8 +53,8 @@ fn do_access_from(
     c: Run,
     ops: &mut [u32],
 ) -> Step
-    requires { Ready c.memory words.old list.old table.old × PortsValid (state_of c.memory words.old list.old ports.old) × (is_known kind ≡ true) × (length ops.old ≡ size_of kind c.memory.fields.sizes) × (from + 2 * length ops.old ≤ length file.now) }
-    ensures { StepAs result words.new list.new buf.new table.new ports.new (done (call_of kind c.memory.fields.sizes (told kind c.memory.fields.sizes port (numbers_at file.now from (length ops.old)))) (state_of c.memory words.old list.old ports.old) c.at (out buf.old c.text)) }
+    requires { Ready c.memory words.old list.old table.old × PortsValid (state_of c.memory words.old list.old ports.old) × (is_known kind ≡ true) × (length ops.old ≡ size_of kind c.memory.fields.sizes.n c.memory.fields.sizes.w) × (from + 2 * length ops.old ≤ length file.now) }
+    ensures { StepAs result words.new list.new buf.new table.new ports.new (done (call_of kind c.memory.fields.sizes.w (told kind c.memory.fields.sizes.n c.memory.fields.sizes.w port (numbers_at file.now from (length ops.old)))) (state_of c.memory words.old list.old ports.old) c.at (out buf.old c.text)) }
 {
     reading::read_numbers(file, from, ops);
     do_access(kind, port, words, list, table, ports, buf, c, ops)
@@ -75,11 +75,11 @@ pub fn do_one(
 {
     let memory = c.memory;
     let text = c.text;
-    let found = reading::access_at(file, c.at, memory.fields.sizes);
+    let found = reading::access_at(file, c.at, memory.fields.sizes.n, memory.fields.sizes.w);
     let access = found.access;
     match access {
         Access::Here { kind, port, from } => {
-            let size = reading::operands(kind, memory.fields.sizes);
+            let size = reading::operands(kind, memory.fields.sizes.n, memory.fields.sizes.w);
             let here = Run {
                 memory,
                 text,

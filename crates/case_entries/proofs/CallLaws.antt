@@ -4,8 +4,6 @@ use mathlib.Core.List.{List, [], ◌∷◌}
 use Prim.Native.Nat.{ℕ, ◌+◌, ◌*◌, ◌≤◌}
 use native.Mathlib.Omega.{arith}
 use lib.ListN.{length, get_or, replicate}
-use Rattle.semantics.specs.declared.Sizes.{Sizes}
-use Rattle.semantics.specs.Sizes.{cell_bits, data_bits}
 use Rattle.model.specs.Record.{part}
 use Rattle.model.specs.Step.{write, read, assert, check, access}
 use Rattle.model.proofs.ListLaws.{part-size}
@@ -36,37 +34,37 @@ cut ops e x c a d q qc qa qd l =
       (λ i. length (part ops (ea i) (ed i))) ∙ part-size ops (c + a) d (omega arith),
     )
 
-module _ (z : Sizes) (ops : List ℕ) (e : Ends) where
-  pub write_cut : e ≡ ends_of Write z → length ops ≡ size_of Write z → Cut ops e 2 (2 * z.n) (2 * data_bits z)
-  write_cut q l = let y = ends-write z in cut ops e _ 2 (2 * z.n) (2 * data_bits z) (q ∙ y) refl refl refl (l ∙ ap (λ (x : Ends). x.word) y)
+module _ (n w : ℕ) (ops : List ℕ) (e : Ends) where
+  pub write_cut : e ≡ ends_of Write n w → length ops ≡ size_of Write n w → Cut ops e 2 (2 * n) (2 * w)
+  write_cut q l = let z = ends-write n w in cut ops e _ 2 (2 * n) (2 * w) (q ∙ z) refl refl refl (l ∙ ap (λ (y : Ends). y.word) z)
 
-  pub read_cut : e ≡ ends_of Read z → length ops ≡ size_of Read z → Cut ops e 2 (2 * z.n) 0
-  read_cut q l = let y = ends_read z in cut ops e _ 2 (2 * z.n) 0 (q ∙ y) refl refl (omega arith) (l ∙ ap (λ (x : Ends). x.word) y)
+  pub read_cut : e ≡ ends_of Read n w → length ops ≡ size_of Read n w → Cut ops e 2 (2 * n) 0
+  read_cut q l = let z = ends_read n w in cut ops e _ 2 (2 * n) 0 (q ∙ z) refl refl (omega arith) (l ∙ ap (λ (y : Ends). y.word) z)
 
-  pub assert_cut : e ≡ ends_of Assert z → length ops ≡ size_of Assert z → Cut ops e 1 (2 * z.n) (2 * cell_bits z)
-  assert_cut q l = let y = ends-assert z in cut ops e _ 1 (2 * z.n) (2 * cell_bits z) (q ∙ y) refl refl refl (l ∙ ap (λ (x : Ends). x.word) y)
+  pub assert_cut : e ≡ ends_of Assert n w → length ops ≡ size_of Assert n w → Cut ops e 1 (2 * n) (2 * w)
+  assert_cut q l = let z = ends-assert n w in cut ops e _ 1 (2 * n) (2 * w) (q ∙ z) refl refl refl (l ∙ ap (λ (y : Ends). y.word) z)
 
-  pub check_cut : e ≡ ends_of Check z → length ops ≡ size_of Check z → Cut ops e 1 (2 * z.n) (2 * cell_bits z)
-  check_cut q l = let y = ends-check z in cut ops e _ 1 (2 * z.n) (2 * cell_bits z) (q ∙ y) refl refl refl (l ∙ ap (λ (x : Ends). x.word) y)
+  pub check_cut : e ≡ ends_of Check n w → length ops ≡ size_of Check n w → Cut ops e 1 (2 * n) (2 * w)
+  check_cut q l = let z = ends-check n w in cut ops e _ 1 (2 * n) (2 * w) (q ∙ z) refl refl refl (l ∙ ap (λ (y : Ends). y.word) z)
 
-  pub write-told : (p : ℕ) → e ≡ ends_of Write z → call_of Write z (told Write z p ops) ≡ access (write (part ops 0 e.control) (part ops e.control e.address) (part ops e.address e.word))
+  pub write-told : (p : ℕ) → e ≡ ends_of Write n w → call_of Write w (told Write n w p ops) ≡ access (write (part ops 0 e.control) (part ops e.control e.address) (part ops e.address e.word))
   unfolding call_of lead_of fields_of
   write-told p q = ap (λ (x : Ends). access (write (part ops 0 x.control) (part ops x.control x.address) (part ops x.address x.word))) (sym q)
 
-  pub read_told : (p : ℕ) → e ≡ ends_of Read z → call_of Read z (told Read z p ops) ≡ access (read p (part ops 0 e.control) (part ops e.control e.address) (replicate (2 * data_bits z) 0))
+  pub read_told : (p : ℕ) → e ≡ ends_of Read n w → call_of Read w (told Read n w p ops) ≡ access (read p (part ops 0 e.control) (part ops e.control e.address) (replicate (2 * w) 0))
   unfolding call_of lead_of fields_of
-  read_told p q = ap (λ (x : Ends). access (read p (part ops 0 x.control) (part ops x.control x.address) (replicate (2 * data_bits z) 0))) (sym q)
+  read_told p q = ap (λ (x : Ends). access (read p (part ops 0 x.control) (part ops x.control x.address) (replicate (2 * w) 0))) (sym q)
 
-  pub assert-told : (p : ℕ) → e ≡ ends_of Assert z → call_of Assert z (told Assert z p ops) ≡ access (assert (get_or ops 0 0) (part ops e.control e.address) (part ops e.address e.word))
+  pub assert-told : (p : ℕ) → e ≡ ends_of Assert n w → call_of Assert w (told Assert n w p ops) ≡ access (assert (get_or ops 0 0) (part ops e.control e.address) (part ops e.address e.word))
   unfolding call_of lead_of fields_of
   assert-told p q =
       ap (λ (x : Ends). access (assert (get_or (part ops 0 x.control) 0 0) (part ops x.control x.address) (part ops x.address x.word))) (sym q)
-      ∙ ap (λ (x : Ends). access (assert (get_or (part ops 0 x.control) 0 0) (part ops e.control e.address) (part ops e.address e.word))) (q ∙ ends-assert z)
+      ∙ ap (λ (x : Ends). access (assert (get_or (part ops 0 x.control) 0 0) (part ops e.control e.address) (part ops e.address e.word))) (q ∙ ends-assert n w)
       ∙ ap (λ (b : ℕ). access (assert b (part ops e.control e.address) (part ops e.address e.word))) (first_part ops)
 
-  pub check-told : (p : ℕ) → e ≡ ends_of Check z → call_of Check z (told Check z p ops) ≡ access (check (get_or ops 0 0) (part ops e.control e.address) (part ops e.address e.word))
+  pub check-told : (p : ℕ) → e ≡ ends_of Check n w → call_of Check w (told Check n w p ops) ≡ access (check (get_or ops 0 0) (part ops e.control e.address) (part ops e.address e.word))
   unfolding call_of lead_of fields_of
   check-told p q =
       ap (λ (x : Ends). access (check (get_or (part ops 0 x.control) 0 0) (part ops x.control x.address) (part ops x.address x.word))) (sym q)
-      ∙ ap (λ (x : Ends). access (check (get_or (part ops 0 x.control) 0 0) (part ops e.control e.address) (part ops e.address e.word))) (q ∙ ends-check z)
+      ∙ ap (λ (x : Ends). access (check (get_or (part ops 0 x.control) 0 0) (part ops e.control e.address) (part ops e.address e.word))) (q ∙ ends-check n w)
       ∙ ap (λ (b : ℕ). access (check b (part ops e.control e.address) (part ops e.address e.word))) (first_part ops)

@@ -50,11 +50,11 @@ pub fn do_write(
     c: Run,
     ops: &[u32],
 ) -> Step
-    requires { Ready c.memory words.old list.old table.old × (length ops.now ≡ size_of kinds.Write c.memory.fields.sizes) }
-    ensures { (ps : List ℕ) → StepAs result words.new list.new buf.new table.new ps (done (call_of kinds.Write c.memory.fields.sizes (told kinds.Write c.memory.fields.sizes 0 ops.now)) (state_of c.memory words.old list.old ps) c.at (out buf.old c.text)) }
+    requires { Ready c.memory words.old list.old table.old × (length ops.now ≡ size_of kinds.Write c.memory.fields.sizes.n c.memory.fields.sizes.w) }
+    ensures { (ps : List ℕ) → StepAs result words.new list.new buf.new table.new ps (done (call_of kinds.Write c.memory.fields.sizes.w (told kinds.Write c.memory.fields.sizes.n c.memory.fields.sizes.w 0 ops.now)) (state_of c.memory words.old list.old ps) c.at (out buf.old c.text)) }
 {
     let memory = c.memory;
-    let e = reading::ends_of(Kind::Write, memory.fields.sizes);
+    let e = reading::ends_of(Kind::Write, memory.fields.sizes.n, memory.fields.sizes.w);
     let b = e.control;
     let a = e.address;
     let d = e.word;
@@ -83,11 +83,11 @@ pub fn do_assert(
     c: Run,
     ops: &[u32],
 ) -> Step
-    requires { Ready c.memory words.old list.old table.old × (length ops.now ≡ size_of kinds.Assert c.memory.fields.sizes) }
-    ensures { (ps : List ℕ) → StepAs result words.new list.new buf.new table.new ps (done (call_of kinds.Assert c.memory.fields.sizes (told kinds.Assert c.memory.fields.sizes 0 ops.now)) (state_of c.memory words.old list.old ps) c.at (out buf.old c.text)) }
+    requires { Ready c.memory words.old list.old table.old × (length ops.now ≡ size_of kinds.Assert c.memory.fields.sizes.n c.memory.fields.sizes.w) }
+    ensures { (ps : List ℕ) → StepAs result words.new list.new buf.new table.new ps (done (call_of kinds.Assert c.memory.fields.sizes.w (told kinds.Assert c.memory.fields.sizes.n c.memory.fields.sizes.w 0 ops.now)) (state_of c.memory words.old list.old ps) c.at (out buf.old c.text)) }
 {
     let memory = c.memory;
-    let e = reading::ends_of(Kind::Assert, memory.fields.sizes);
+    let e = reading::ends_of(Kind::Assert, memory.fields.sizes.n, memory.fields.sizes.w);
     let b = e.control;
     let a = e.address;
     let d = e.word;

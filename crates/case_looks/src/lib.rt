@@ -1,11 +1,10 @@
 // The accesses of a case that enter nothing: a read and a check, each with its line.
 #![tactic(auto)]
 
-ghost use Rattle.std.specs.Prelude.{List, ℕ, ◌≡◌, length, replicate};
+ghost use Rattle.std.specs.Prelude.{List, ℕ, ◌*◌, ◌≡◌, length, replicate};
 ghost use Rattle.text.specs.Text.{out};
 ghost use Rattle.format.specs.declared.Kind.TheVariants as kinds;
 ghost use Rattle.reading.specs.Layout.{size_of, told};
-ghost use Rattle.model.specs.Record.{data_words};
 ghost use Rattle.model.specs.Frames.{PortsValid};
 ghost use Rattle.memory.specs.Contract.{state_of};
 ghost use Rattle.cases.specs.Case.{call_of, done};
@@ -29,11 +28,11 @@ fn read_into(
     ops: &[u32],
     word: &mut [u32],
 ) -> Step
-    requires { Ready c.memory words.old list.now table.old × PortsValid (state_of c.memory words.old list.now ports.old) × (length ops.now ≡ size_of kinds.Read c.memory.fields.sizes) × (word.old ≡ replicate (data_words c.memory.fields) 0) }
-    ensures { StepAs result words.new list.now buf.new table.new ports.new (done (call_of kinds.Read c.memory.fields.sizes (told kinds.Read c.memory.fields.sizes port ops.now)) (state_of c.memory words.old list.now ports.old) c.at (out buf.old c.text)) }
+    requires { Ready c.memory words.old list.now table.old × PortsValid (state_of c.memory words.old list.now ports.old) × (length ops.now ≡ size_of kinds.Read c.memory.fields.sizes.n c.memory.fields.sizes.w) × (word.old ≡ replicate (2 * c.memory.fields.sizes.w) 0) }
+    ensures { StepAs result words.new list.now buf.new table.new ports.new (done (call_of kinds.Read c.memory.fields.sizes.w (told kinds.Read c.memory.fields.sizes.n c.memory.fields.sizes.w port ops.now)) (state_of c.memory words.old list.now ports.old) c.at (out buf.old c.text)) }
 {
     let memory = c.memory;
-    let e = reading::ends_of(Kind::Read, memory.fields.sizes);
+    let e = reading::ends_of(Kind::Read, memory.fields.sizes.n, memory.fields.sizes.w);
     let b = e.control;
     let a = e.address;
     let r = memory.read_on(
@@ -68,11 +67,11 @@ pub fn do_read(
     port: u32,
     ops: &[u32],
 ) -> Step
-    requires { Ready c.memory words.old list.now table.old × PortsValid (state_of c.memory words.old list.now ports.old) × (length ops.now ≡ size_of kinds.Read c.memory.fields.sizes) }
-    ensures { StepAs result words.new list.now buf.new table.new ports.new (done (call_of kinds.Read c.memory.fields.sizes (told kinds.Read c.memory.fields.sizes port ops.now)) (state_of c.memory words.old list.now ports.old) c.at (out buf.old c.text)) }
+    requires { Ready c.memory words.old list.now table.old × PortsValid (state_of c.memory words.old list.now ports.old) × (length ops.now ≡ size_of kinds.Read c.memory.fields.sizes.n c.memory.fields.sizes.w) }
+    ensures { StepAs result words.new list.now buf.new table.new ports.new (done (call_of kinds.Read c.memory.fields.sizes.w (told kinds.Read c.memory.fields.sizes.n c.memory.fields.sizes.w port ops.now)) (state_of c.memory words.old list.now ports.old) c.at (out buf.old c.text)) }
 {
     let memory = c.memory;
-    let size = ranges::data_words(memory.fields.sizes);
+    let size = 2 * (memory.fields.sizes.w as usize);
     let mut word: [u32; 32] = [0; 32];
     read_into(
         words,
@@ -96,11 +95,11 @@ pub fn do_check(
     c: Run,
     ops: &[u32],
 ) -> Step
-    requires { Ready c.memory words.old list.now table.old × (length ops.now ≡ size_of kinds.Check c.memory.fields.sizes) }
-    ensures { (ps : List ℕ) → StepAs result words.new list.now buf.new table.new ps (done (call_of kinds.Check c.memory.fields.sizes (told kinds.Check c.memory.fields.sizes 0 ops.now)) (state_of c.memory words.old list.now ps) c.at (out buf.old c.text)) }
+    requires { Ready c.memory words.old list.now table.old × (length ops.now ≡ size_of kinds.Check c.memory.fields.sizes.n c.memory.fields.sizes.w) }
+    ensures { (ps : List ℕ) → StepAs result words.new list.now buf.new table.new ps (done (call_of kinds.Check c.memory.fields.sizes.w (told kinds.Check c.memory.fields.sizes.n c.memory.fields.sizes.w 0 ops.now)) (state_of c.memory words.old list.now ps) c.at (out buf.old c.text)) }
 {
     let memory = c.memory;
-    let e = reading::ends_of(Kind::Check, memory.fields.sizes);
+    let e = reading::ends_of(Kind::Check, memory.fields.sizes.n, memory.fields.sizes.w);
     let b = e.control;
     let a = e.address;
     let d = e.word;

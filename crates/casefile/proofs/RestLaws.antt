@@ -10,7 +10,6 @@ use lib.ListN.{length, replicate}
 use Rattle.text.specs.declared.Text.{Text}
 use Rattle.text.specs.Text.{out, growing, appended}
 use Rattle.lines.specs.Lines.{end_line}
-use Rattle.semantics.specs.declared.Sizes.{Sizes}
 use Rattle.memory.specs.declared.Record.{Record}
 use Rattle.memory.specs.Contract.{state_of}
 use Rattle.reading.specs.declared.Loaded.{Loaded}
@@ -99,16 +98,16 @@ module _ (file words list text ws : List ℕ) (r : Loaded) (f : (ws, sections_of
   pub whole-stops : {k : ℕ} → r ≡ loaded.Refused k → stopped k 0 ≡ whole file words list text
   whole-stops e = sym (whole_is ∙ ap (λ (x : Loaded). after_sections file ws (sections_of x) list text) e)
 
-  pub whole-goes : {z : Sizes} {count m at : ℕ} → r ≡ loaded.Ready z count m at → {y : Ended} → y ≡ rest file m 0 (record { state = record { rec = first_record z count; words = ws; list = list; ports = fresh_ports }; at = at; text = growing text 0 })
+  pub whole-goes : {n w count m at : ℕ} → r ≡ loaded.Ready n w count m at → {y : Ended} → y ≡ rest file m 0 (record { state = record { rec = first_record n w count; words = ws; list = list; ports = fresh_ports }; at = at; text = growing text 0 })
       → y ≡ whole file words list text
   whole-goes e g = g ∙ sym (whole_is ∙ ap (λ (x : Loaded). after_sections file ws (sections_of x) list text) e)
 
 -- a case with which nothing is done yet
-pub first-ready : (file words list ws : List ℕ) (r : Loaded) {z : Sizes} {count m at : ℕ} → r ≡ loaded.Ready z count m at → (ws, sections_of r) ≡ sections file words
-    → let m : Record = record { fields = record { sizes = z; count = count; entries = 0; asserted = 1; checked = 1 } } in Ready m ws list (replicate 32768 0) × PortsValid (state_of m ws list fresh_ports)
-first-ready file words list ws r {z} {count} e f =
+pub first-ready : (file words list ws : List ℕ) (r : Loaded) {n w count m at : ℕ} → r ≡ loaded.Ready n w count m at → (ws, sections_of r) ≡ sections file words
+    → let m : Record = record { fields = record { sizes = record { n = n; w = w }; count = count; entries = 0; asserted = 1; checked = 1 } } in Ready m ws list (replicate 32768 0) × PortsValid (state_of m ws list fresh_ports)
+first-ready file words list ws r {n} {w} {count} e f =
     let S = sections-ready file words e f in
-    (record { valid = valid-plain (record { fields = record { sizes = z; count = count; entries = 0; asserted = 1; checked = 1 } }) ws list fresh_ports (sections-valid S list); sound = zeros-sound _ 32768 S.standard }, sections-ports-valid S list)
+    (record { valid = valid-plain (record { fields = record { sizes = record { n = n; w = w }; count = count; entries = 0; asserted = 1; checked = 1 } }) ws list fresh_ports (sections-valid S list); sound = zeros-sound _ 32768 S.standard }, sections-ports-valid S list)
 
 -- accepted, and refused
 module _ (file words list text w l b : List ℕ) (r : CaseAnswer) (f : EndsAs r w l b (whole file words list text)) where

@@ -12,6 +12,7 @@ use conditions::Table;
 use memory::Record;
 use model::Fields;
 use reading::Loaded;
+use semantics::Sizes;
 use text::Text;
 
 // The last line, unless bytes are left.
@@ -71,7 +72,8 @@ pub fn whole(file: &[u8], words: &mut [u32], list: &mut [u32], buf: &mut [u8]) -
     let loaded = reading::load_sections(file, words);
     match loaded {
         Loaded::Ready {
-            sizes,
+            n,
+            w,
             count,
             accesses,
             at,
@@ -79,7 +81,7 @@ pub fn whole(file: &[u8], words: &mut [u32], list: &mut [u32], buf: &mut [u8]) -
             let c = Run {
                 memory: Record {
                     fields: Fields {
-                        sizes,
+                        sizes: Sizes { n, w },
                         count,
                         entries: 0,
                         asserted: 1,

@@ -15,7 +15,7 @@ use Rattle.conditions.specs.Value.{value}
 use Rattle.conditions.specs.Assignment.{bit_at}
 use Rattle.semantics.specs.declared.Sizes.{Sizes}
 use Rattle.model.specs.Record.{Record, fresh_ports}
-use Rattle.model.specs.Step.{State, Call, accepted, step, run, AllAccepted}
+use Rattle.model.specs.Step.{State, Call, accepted, is_refused, step, run, AllAccepted}
 use Rattle.model.specs.Frames.{SizesStay}
 use Rattle.model.specs.Claims.{Begins, Demand3}
 use Rattle.model.proofs.FrameLaws.{sizes_stay}
@@ -29,16 +29,16 @@ use Rattle.cases.specs.Claims.{Printed, calls_from, end_from, calls_in, state_in
 use Rattle.cases.proofs.LastLaws.{last-left, last-printed}
 use Rattle.cases.proofs.WayLaws.{call_here, after_one, Way, goes_on, is_over, is_refused_by, is_missing, way}
 
--- what m accesses that are left come to, for these sizes, where the case is accepted
-record Comes (file : List ℕ) (z : Sizes) (m : ℕ) (c : Running) (s : State) (o : Out) : Type 0 where
-  stand : AllStand file z c.at m
-  ends : end_from file z c.at m ≡ length file
-  accepted : AllAccepted (calls_from file z c.at m) c.state
-  state : s ≡ run (calls_from file z c.at m) c.state
-  text : o ≡ appended (lines_of (calls_from file z c.at m) c.state) c.text
+-- what m accesses that are left come to, for n and w, where the case is accepted
+record Comes (file : List ℕ) (n w m : ℕ) (c : Running) (s : State) (o : Out) : Type 0 where
+  stand : AllStand file n w c.at m
+  ends : end_from file n w c.at m ≡ length file
+  accepted : AllAccepted (calls_from file n w c.at m) c.state
+  state : s ≡ run (calls_from file n w c.at m) c.state
+  text : o ≡ appended (lines_of (calls_from file n w c.at m) c.state) c.text
   free : o.text.full ≡ false
 
-last-ended : (file : List ℕ) (k : ℕ) (c : Running) (s : State) (o : Out) → c.at ≤ length file → last file k c ≡ ended s o → Comes file c.state.rec.sizes 0 c s o
+last-ended : (file : List ℕ) (k : ℕ) (c : Running) (s : State) (o : Out) → c.at ≤ length file → last file k c ≡ ended s o → Comes file c.state.rec.sizes.n c.state.rec.sizes.w 0 c s o
 unfolding calls_from end_from run
 last-ended file k c s o h e = go (ltb c.at (length file)) refl
   where
@@ -49,7 +49,7 @@ last-ended file k c s o h e = go (ltb c.at (length file)) refl
     full true q e = let z : ◌≡◌ {A = ℕ} 0 1 = cc in absurd (omega arith)
     full false q e = (cc, cc, q)
 
-    go : (f : Bool) → ltb c.at (length file) ≡ f → Comes file c.state.rec.sizes 0 c s o
+    go : (f : Bool) → ltb c.at (length file) ≡ f → Comes file c.state.rec.sizes.n c.state.rec.sizes.w 0 c s o
     go true q =
         let u : stopped 12 k ≡ ended s o = sym (last-left file k c (ltb-true c.at (length file) q)) ∙ e in
         let z : ◌≡◌ {A = ℕ} 0 1 = cc in
@@ -59,12 +59,12 @@ last-ended file k c s o h e = go (ltb c.at (length file)) refl
         let F = full end.text.full refl (sym (last-printed file k c l) ∙ e) in
         record { stand = tt; ends = omega arith; accepted = tt; state = F.0; text = F.1; free = ap (λ (x : Out). x.text.full) F.1 ∙ F.2 }
 
--- the sizes stay
-pub same-sizes : (x : Call) (s : State) → (step x s).after.rec.sizes ≡ s.rec.sizes
+-- n and w stay
+pub same-sizes : (x : Call) (s : State) → is_refused (step x s).answer ≡ false → ((step x s).after.rec.sizes.n ≡ s.rec.sizes.n) × ((step x s).after.rec.sizes.w ≡ s.rec.sizes.w)
 unfolding SizesStay
-same-sizes x s = (sizes_stay x s).sizes
+same-sizes x s e = let E = sizes_stay x s in (ap (λ (z : Sizes). z.n) E.sizes, ap (λ (z : Sizes). z.w) E.sizes)
 
-rest_ended : (file : List ℕ) (m k : ℕ) (c : Running) (s : State) (o : Out) → c.at ≤ length file → rest file m k c ≡ ended s o → Comes file c.state.rec.sizes m c s o
+rest_ended : (file : List ℕ) (m k : ℕ) (c : Running) (s : State) (o : Out) → c.at ≤ length file → rest file m k c ≡ ended s o → Comes file c.state.rec.sizes.n c.state.rec.sizes.w m c s o
 unfolding rest calls_from end_from run
 rest_ended file zero k c s o h e = last-ended file k c s o h e
 rest_ended file (suc m) k c s o h e = go (λ d. rest_ended file m (suc k) d s o) (way file c)
@@ -72,15 +72,18 @@ rest_ended file (suc m) k c s o h e = go (λ d. rest_ended file m (suc k) d s o)
     from : {x : Next} → one file c ≡ x → after x k (rest file m (suc k)) ≡ ended s o
     from q = ap (λ (x : Next). after x k (rest file m (suc k))) (sym q) ∙ e
 
-    no : (a b : ℕ) → stopped a b ≡ ended s o → Comes file c.state.rec.sizes (suc m) c s o
+    no : (a b : ℕ) → stopped a b ≡ ended s o → Comes file c.state.rec.sizes.n c.state.rec.sizes.w (suc m) c s o
     no a b u = let z : ◌≡◌ {A = ℕ} 0 1 = cc in absurd (omega arith)
 
-    go : ((d : Running) → d.at ≤ length file → rest file m (suc k) d ≡ ended s o → Comes file d.state.rec.sizes m d s o) → Way file c → Comes file c.state.rec.sizes (suc m) c s o
+    go : ((d : Running) → d.at ≤ length file → rest file m (suc k) d ≡ ended s o → Comes file d.state.rec.sizes.n d.state.rec.sizes.w m d s o) → Way file c → Comes file c.state.rec.sizes.n c.state.rec.sizes.w (suc m) c s o
     go again (goes_on q t a f) =
-        let z = c.state.rec.sizes in
+        let n = c.state.rec.sizes.n in
+        let w = c.state.rec.sizes.w in
         let d = after_one file c in
-        let C : Comes file z m d s o = subst (λ (x : Sizes). Comes file x m d s o) (same-sizes (call_here file c) c.state) (again d (access_lies file c.at z (sym t)).inside (from q)) in
-        record { stand = (t, C.stand); ends = C.ends; accepted = (a, C.accepted); state = C.state; text = C.text ∙ sym (appended-append _ (lines_of (calls_from file z d.at m) d.state) c.text); free = C.free }
+        let Z = same-sizes (call_here file c) c.state a in
+        let C : Comes file n w m d s o =
+        subst (λ (x : ℕ). Comes file n x m d s o) Z.1 (subst (λ (x : ℕ). Comes file x d.state.rec.sizes.w m d s o) Z.0 (again d (access_lies file c.at n w (sym t)).inside (from q))) in
+        record { stand = (t, C.stand); ends = C.ends; accepted = (a, C.accepted); state = C.state; text = C.text ∙ sym (appended-append _ (lines_of (calls_from file n w d.at m) d.state) c.text); free = C.free }
     go again (is_over q t a f) = no _ _ (from q)
     go again (is_refused_by x q t a) = no _ _ (from q)
     go again (is_missing x q t) = no _ _ (from q)
@@ -96,13 +99,13 @@ record Began (file words list text : List ℕ) (s : State) (o : Out) : Type 0 wh
   is : rest file (accesses_in file) 0 (start file words list text) ≡ ended s o
 
 -- sections that are read
-pub begun : (file words list text : List ℕ) {z : Sizes} {count m at : ℕ} → (sections file words).1 ≡ ready z count m at
-    → rest file m 0 (record { state = record { rec = first_record z count; words = (sections file words).0; list = list; ports = fresh_ports }; at = at; text = growing text 0 }) ≡ rest file (accesses_in file) 0 (start file words list text)
-begun file words list text {z} {count} {m} {at} q =
+pub begun : (file words list text : List ℕ) {n w count m at : ℕ} → (sections file words).1 ≡ ready n w count m at
+    → rest file m 0 (record { state = record { rec = first_record n w count; words = (sections file words).0; list = list; ports = fresh_ports }; at = at; text = growing text 0 }) ≡ rest file (accesses_in file) 0 (start file words list text)
+begun file words list text {n} {w} {count} {m} {at} q =
     let ws = (sections file words).0 in
-    let R = sections-read file words {ws = ws} {z = z} {count = count} {accesses = m} {at = at} (ap (λ (y : Sections). (ws, y)) (sym q)) in
-    let start_is : record { state = record { rec = first_record z count; words = ws; list = list; ports = fresh_ports }; at = at; text = growing text 0 } ≡ start file words list text =
-    λ i. record { state = record { rec = record { sizes = R.sizes_are i; count = R.count_is i; entries = 0; asserted = 1; checked = 1 }; words = R.words_are i; list = list; ports = fresh_ports }; at = R.at_is i; text = growing text 0 } in
+    let R = sections-read file words {ws = ws} {n = n} {w = w} {count = count} {accesses = m} {at = at} (ap (λ (y : Sections). (ws, y)) (sym q)) in
+    let start_is : record { state = record { rec = first_record n w count; words = ws; list = list; ports = fresh_ports }; at = at; text = growing text 0 } ≡ start file words list text =
+    λ i. record { state = record { rec = record { sizes = record { n = R.n_is i; w = R.w_is i }; count = R.count_is i; entries = 0; asserted = 1; checked = 1 }; words = R.words_are i; list = list; ports = fresh_ports }; at = R.at_is i; text = growing text 0 } in
     ap (λ (y : Running). rest file m 0 y) start_is ∙ ap (λ (i : ℕ). rest file i 0 (start file words list text)) R.accesses_is
 
 whole_began : (file words list text : List ℕ) (s : State) (o : Out) → whole file words list text ≡ ended s o → Began file words list text s o
@@ -110,13 +113,13 @@ unfolding whole
 whole_began file words list text s o e = go (sections file words).1 refl e
   where
     go : (x : Sections) → (sections file words).1 ≡ x → after_sections file (sections file words).0 x list text ≡ ended s o → Began file words list text s o
-    go (ready z count m at) q e =
+    go (ready n w count m at) q e =
         let ws = (sections file words).0 in
-        let R = sections-read file words {ws = ws} {z = z} {count = count} {accesses = m} {at = at} (ap (λ (y : Sections). (ws, y)) (sym q)) in
-        let state-is : record { rec = first_record z count; words = ws; list = list; ports = fresh_ports } ≡ state_in file words list =
-        λ i. record { rec = record { sizes = R.sizes_are i; count = R.count_is i; entries = 0; asserted = 1; checked = 1 }; words = R.words_are i; list = list; ports = fresh_ports } in
+        let R = sections-read file words {ws = ws} {n = n} {w = w} {count = count} {accesses = m} {at = at} (ap (λ (y : Sections). (ws, y)) (sym q)) in
+        let state-is : record { rec = first_record n w count; words = ws; list = list; ports = fresh_ports } ≡ state_in file words list =
+        λ i. record { rec = record { sizes = record { n = R.n_is i; w = R.w_is i }; count = R.count_is i; entries = 0; asserted = 1; checked = 1 }; words = R.words_are i; list = list; ports = fresh_ports } in
         record {
-          read = q ∙ (λ i. ready (R.sizes_are i) (R.count_is i) (R.accesses_is i) (R.at_is i));
+          read = q ∙ (λ i. ready (R.n_is i) (R.w_is i) (R.count_is i) (R.accesses_is i) (R.at_is i));
           begins = subst Begins state-is (sections-begin R list);
           inside = omega (arith, R.at_is, R.inside);
           is = sym (begun file words list text q) ∙ e;

@@ -10,7 +10,6 @@ use Rattle.conditions.specs.Computing.{computing}
 use Rattle.conditions.specs.Value.{grow, tree_of}
 use Rattle.conditions.specs.Show.{show}
 use Rattle.lines.specs.Lines.{write_line, idle_line, bit_text, bits_text, read_line, assert_word, assert_line, check_line, end_line}
-use Rattle.semantics.specs.declared.Sizes.{Sizes}
 use Rattle.model.specs.Record.{Record, list_capacity, appended, replaced}
 use Rattle.model.specs.Access.{unique_bit, Unique, Certain, Write, narrow_bit, Narrow, half_step, EachHalf, merge_half, entry_step, settle_half, Look, Read, inside_half, Inside, Check, Assert, hold_half}
 use Rattle.model.specs.Rows.{row1, row3, ports_row}
@@ -92,16 +91,12 @@ asserting_lines =
     ∷ 101 ∷ 110 ∷ 100 ∷ 32 ∷ 50 ∷ 10
     ∷ []
 
--- n = 1 and w = 1
-abbrev sizes : Sizes
-sizes = record { n = 1; w = 1 }
-
 abbrev pub ExamplesPrint : Type 0
 ExamplesPrint =
-    Prints example (record { sizes = sizes; count = 10; entries = 1; asserted = 1; checked = 3 }) example_lines
-    × Prints held (record { sizes = sizes; count = 4; entries = 1; asserted = 1; checked = 1 }) held_lines
-    × Prints idling (record { sizes = sizes; count = 2; entries = 1; asserted = 1; checked = 1 }) idling_lines
-    × Prints asserting (record { sizes = sizes; count = 9; entries = 2; asserted = 3; checked = 2 }) asserting_lines
+    Prints example (record { sizes = record { n = 1; w = 1 }; count = 10; entries = 1; asserted = 1; checked = 3 }) example_lines
+    × Prints held (record { sizes = record { n = 1; w = 1 }; count = 4; entries = 1; asserted = 1; checked = 1 }) held_lines
+    × Prints idling (record { sizes = record { n = 1; w = 1 }; count = 2; entries = 1; asserted = 1; checked = 1 }) idling_lines
+    × Prints asserting (record { sizes = record { n = 1; w = 1 }; count = 9; entries = 2; asserted = 3; checked = 2 }) asserting_lines
 
 pub examples_print : ExamplesPrint
 unfolding

@@ -9,9 +9,7 @@ use lib.Dec.{eqb, leb}
 use lib.ListN.{length, get_or, replicate, length-replicate}
 use borrow.Author.Tests.{eqb-true, eq-eqb, leb-true}
 use Rattle.nodes.proofs.BoolLaws.{and_both, or_cases, both_and}
-use Rattle.semantics.specs.declared.Sizes.{Sizes}
-use Rattle.semantics.specs.Sizes.{cell_bits, data_bits}
-use Rattle.model.specs.Record.{fresh_ports, address_words, cell_words, data_words}
+use Rattle.model.specs.Record.{fresh_ports}
 use Rattle.model.specs.Rows.{Row, first_row, write_rows, read_rows, assert_rows, check_rows, evaluate_rows}
 use Rattle.model.specs.Step.{State, Call, refused, refusal, Finish, full, short, gives, finish, step, run, AllAccepted}
 use Rattle.model.specs.Frames.{Valid, RefusalNumber, NoRow123, RefusedByRow, late_row, PortsValid, numbers}
@@ -23,7 +21,7 @@ use Rattle.format.specs.Bytes.{numbers_at}
 use Rattle.format.specs.Fields.{fields_of, values_at}
 use Rattle.format.specs.Accesses.{Found, found, kind_at, held_at, access_rows, found_unless, access_at}
 use Rattle.format.specs.Accesses as accesses
-use Rattle.format.specs.Sections.{Sections, ready, sizes_in, record_in, nodes_in, early_rows, late_rows, sections_unless, sections, accesses_in, first_at}
+use Rattle.format.specs.Sections.{Sections, ready, record_in, nodes_in, early_rows, late_rows, sections_unless, sections, accesses_in, first_at}
 use Rattle.format.specs.Sections as sections
 use Rattle.format.proofs.BytesLaws.{numbers-length}
 use Rattle.format.proofs.RowLaws.{rows-number}
@@ -51,17 +49,17 @@ section-number : (file words : List ℕ) (number : ℕ) → (sections file words
 unfolding sections
 section-number file words number e = go (first_row (early_rows file words ++ late_rows file words)) refl e
   where
-    go : (r : ℕ) → first_row (early_rows file words ++ late_rows file words) ≡ r → sections_unless r (ready (sizes_in file) (nodes_in file + 2) (accesses_in file) (first_at file)) ≡ sections.refused number → CaseNumber number
-    go zero q e = let u : ◌≡◌ {A = ℕ} 0 1 = cc in absurd (omega arith)
-    go (suc k) q e = let u : number ≡ suc k = cc in subst CaseNumber (sym u) (rows-number CaseNumber (early_rows file words ++ late_rows file words) (ten, (one, (ten, (ten, (two, (two, (ten, tt))))))) q)
+    go : (r : ℕ) → first_row (early_rows file words ++ late_rows file words) ≡ r → sections_unless r (ready (get_or file 0 0) (get_or file 1 0) (nodes_in file + 2) (accesses_in file) (first_at file)) ≡ sections.refused number → CaseNumber number
+    go zero q e = let z : ◌≡◌ {A = ℕ} 0 1 = cc in absurd (omega arith)
+    go (suc k) q e = let z : number ≡ suc k = cc in subst CaseNumber (sym z) (rows-number CaseNumber (early_rows file words ++ late_rows file words) (ten, (one, (ten, (ten, (two, (two, (ten, tt))))))) q)
 
-access-number : (file : List ℕ) (at : ℕ) (z : Sizes) (number : ℕ) → access_at file at z ≡ accesses.refused number → CaseNumber number
+access-number : (file : List ℕ) (at n w number : ℕ) → access_at file at n w ≡ accesses.refused number → CaseNumber number
 unfolding access_at
-access-number file at z number e = go (first_row (access_rows file at z)) refl e
+access-number file at n w number e = go (first_row (access_rows file at n w)) refl e
   where
-    go : (r : ℕ) → first_row (access_rows file at z) ≡ r → found_unless r (found (kind_at file at) (held_at file at z)) ≡ accesses.refused number → CaseNumber number
-    go zero q e = let u : ◌≡◌ {A = ℕ} 0 1 = cc in absurd (omega arith)
-    go (suc k) q e = let u : number ≡ suc k = cc in subst CaseNumber (sym u) (rows-number CaseNumber (access_rows file at z) (ten, (from-five 11 (omega arith) (omega arith), (ten, tt))) q)
+    go : (r : ℕ) → first_row (access_rows file at n w) ≡ r → found_unless r (found (kind_at file at) (held_at file at n w)) ≡ accesses.refused number → CaseNumber number
+    go zero q e = let z : ◌≡◌ {A = ℕ} 0 1 = cc in absurd (omega arith)
+    go (suc k) q e = let z : number ≡ suc k = cc in subst CaseNumber (sym z) (rows-number CaseNumber (access_rows file at n w) (ten, (from-five 11 (omega arith) (omega arith), (ten, tt))) q)
 
 -- rows of which each with this number holds
 abbrev Passes : ℕ → List Row → Type 0
@@ -77,24 +75,21 @@ passes_not k (t ∷ ts) P e = go (passes_not k ts P.1) t.1 refl e
     go again false q e = false≢true (sym q ∙ P.0 e)
 
 -- an access of a file has control, address and data of the right lengths
-module _ (file : List ℕ) (at : ℕ) (z : Sizes) (s : State) (ez : s.rec.sizes ≡ z) where
+module _ (file : List ℕ) (at n w : ℕ) (s : State) (en : s.rec.sizes.n ≡ n) (ew : s.rec.sizes.w ≡ w) where
   abbrev called : Kind → Call
-  called k = call_of k z (values_at file at (fields_of k z))
+  called k = call_of k w (values_at file at (fields_of k n w))
 
-  lengths : {a b c x y u : ℕ} → a ≡ x → b ≡ y → c ≡ u → (eqb a x && eqb b y && eqb c u) ≡ true
-  lengths {a} {b} {c} {x} {y} {u} p q r = both_and (both_and (eq-eqb a x p) (eq-eqb b y q)) (eq-eqb c u r)
+  lengths : {a b c x y z : ℕ} → a ≡ x → b ≡ y → c ≡ z → (eqb a x && eqb b y && eqb c z) ≡ true
+  lengths {a} {b} {c} {x} {y} {z} p q r = both_and (both_and (eq-eqb a x p) (eq-eqb b y q)) (eq-eqb c z r)
 
   control : (i : ℕ) → length (numbers_at file i 2) ≡ 2
   control i = numbers-length file i 2
 
-  address : (i : ℕ) → length (numbers_at file i (2 * z.n)) ≡ address_words s.rec
-  address i = numbers-length file i (2 * z.n) ∙ ap (λ (x : Sizes). 2 * x.n) (sym ez)
+  address : (i : ℕ) → length (numbers_at file i (2 * n)) ≡ 2 * s.rec.sizes.n
+  address i = numbers-length file i (2 * n) ∙ ap (λ (x : ℕ). 2 * x) (sym en)
 
-  cell : (i : ℕ) → length (numbers_at file i (2 * cell_bits z)) ≡ cell_words s.rec
-  cell i = numbers-length file i (2 * cell_bits z) ∙ ap (λ (x : Sizes). 2 * cell_bits x) (sym ez)
-
-  word : (i : ℕ) → length (numbers_at file i (2 * data_bits z)) ≡ data_words s.rec
-  word i = numbers-length file i (2 * data_bits z) ∙ ap (λ (x : Sizes). 2 * data_bits x) (sym ez)
+  word : (i : ℕ) → length (numbers_at file i (2 * w)) ≡ 2 * s.rec.sizes.w
+  word i = numbers-length file i (2 * w) ∙ ap (λ (x : ℕ). 2 * x) (sym ew)
 
   -- a row of another number
   no : {k : ℕ} {b : Bool} → k ≡ 4 → eqb k 4 ≡ false → b ≡ true
@@ -102,10 +97,10 @@ module _ (file : List ℕ) (at : ℕ) (z : Sizes) (s : State) (ez : s.rec.sizes 
 
   row_four : (k : Kind) → refusal (called k) s ≡ 4 → ⊥
   unfolding call_of fields_of values_at
-  row_four kind.Write = passes_not 3 (write_rows s.rec s.words s.list (numbers_at file at 2) (numbers_at file (at + 2 * 2) (2 * z.n)) (numbers_at file (at + 2 * 2 + 2 * (2 * z.n)) (2 * data_bits z))) (λ e. no e refl, (λ e. no e refl, (λ e. no e refl, (λ _. lengths (control _) (address _) (word _), (λ e. no e refl, (λ e. no e refl, tt))))))
-  row_four kind.Read = passes_not 3 (read_rows s.rec s.words s.list s.ports (get_or file at 0) (numbers_at file (at + 1) 2) (numbers_at file (at + 1 + 2 * 2) (2 * z.n)) (replicate (2 * data_bits z) 0)) (λ e. no e refl, (λ e. no e refl, (λ e. no e refl, (λ _. lengths (control _) (address _) (length-replicate {A = ℕ} (2 * data_bits z) 0 ∙ ap (λ (x : Sizes). 2 * data_bits x) (sym ez)), (λ e. no e refl, (λ e. no e refl, (λ e. no e refl, tt)))))))
-  row_four kind.Assert = passes_not 3 (assert_rows s.rec s.words s.list (get_or (numbers_at file at 1) 0 0) (numbers_at file (at + 2 * 1) (2 * z.n)) (numbers_at file (at + 2 * 1 + 2 * (2 * z.n)) (2 * cell_bits z))) (λ e. no e refl, (λ e. no e refl, (λ e. no e refl, (λ _. both_and (eq-eqb _ _ (address _)) (eq-eqb _ _ (cell _)), (λ e. no e refl, (λ e. no e refl, (λ e. no e refl, tt)))))))
-  row_four kind.Check = passes_not 3 (check_rows s.rec s.words s.list (get_or (numbers_at file at 1) 0 0) (numbers_at file (at + 2 * 1) (2 * z.n)) (numbers_at file (at + 2 * 1 + 2 * (2 * z.n)) (2 * cell_bits z))) (λ e. no e refl, (λ e. no e refl, (λ e. no e refl, (λ _. both_and (eq-eqb _ _ (address _)) (eq-eqb _ _ (cell _)), (λ e. no e refl, (λ e. no e refl, tt))))))
+  row_four kind.Write = passes_not 3 (write_rows s.rec s.words s.list (numbers_at file at 2) (numbers_at file (at + 2 * 2) (2 * n)) (numbers_at file (at + 2 * 2 + 2 * (2 * n)) (2 * w))) (λ e. no e refl, (λ e. no e refl, (λ e. no e refl, (λ _. lengths (control _) (address _) (word _), (λ e. no e refl, (λ e. no e refl, tt))))))
+  row_four kind.Read = passes_not 3 (read_rows s.rec s.words s.list s.ports (get_or file at 0) (numbers_at file (at + 1) 2) (numbers_at file (at + 1 + 2 * 2) (2 * n)) (replicate (2 * w) 0)) (λ e. no e refl, (λ e. no e refl, (λ e. no e refl, (λ _. lengths (control _) (address _) (length-replicate {A = ℕ} (2 * w) 0 ∙ ap (λ (x : ℕ). 2 * x) (sym ew)), (λ e. no e refl, (λ e. no e refl, (λ e. no e refl, tt)))))))
+  row_four kind.Assert = passes_not 3 (assert_rows s.rec s.words s.list (get_or (numbers_at file at 1) 0 0) (numbers_at file (at + 2 * 1) (2 * n)) (numbers_at file (at + 2 * 1 + 2 * (2 * n)) (2 * w))) (λ e. no e refl, (λ e. no e refl, (λ e. no e refl, (λ _. both_and (eq-eqb _ _ (address _)) (eq-eqb _ _ (word _)), (λ e. no e refl, (λ e. no e refl, (λ e. no e refl, tt)))))))
+  row_four kind.Check = passes_not 3 (check_rows s.rec s.words s.list (get_or (numbers_at file at 1) 0 0) (numbers_at file (at + 2 * 1) (2 * n)) (numbers_at file (at + 2 * 1 + 2 * (2 * n)) (2 * w))) (λ e. no e refl, (λ e. no e refl, (λ e. no e refl, (λ _. both_and (eq-eqb _ _ (address _)) (eq-eqb _ _ (word _)), (λ e. no e refl, (λ e. no e refl, tt))))))
   row_four kind.Unknown = passes_not 3 (evaluate_rows s.rec s.words 0) (λ e. no e refl, (λ e. no e refl, (λ e. no e refl, tt)))
 
   not_four : (k : Kind) → (step (called k) s).answer ≡ refused 4 → ⊥
@@ -121,11 +116,14 @@ module _ (file : List ℕ) (at : ℕ) (z : Sizes) (s : State) (ez : s.rec.sizes 
       go (inl q) = row_four k (eqb-true _ 4 q)
       go (inr q) = none (finish (called k) s) (and_both (eqb (refusal (called k) s) 0) _ q).1
 
--- the sizes stay
-run-sizes : (cs : List Call) (s : State) → (run cs s).rec.sizes ≡ s.rec.sizes
+-- n and w stay
+run-sizes : (cs : List Call) (s : State) → AllAccepted cs s → ((run cs s).rec.sizes.n ≡ s.rec.sizes.n) × ((run cs s).rec.sizes.w ≡ s.rec.sizes.w)
 unfolding run
-run-sizes [] s = refl
-run-sizes (c ∷ cs) s = run-sizes cs (step c s).after ∙ same-sizes c s
+run-sizes [] s A = (refl, refl)
+run-sizes (c ∷ cs) s A =
+    let Z = same-sizes c s A.0 in
+    let R = run-sizes cs (step c s).after A.1 in
+    (R.0 ∙ Z.0, R.1 ∙ Z.1)
 
 -- the state with which the accesses begin
 first-valid : (file words list : List ℕ) → SectionsReady file words → Valid (state_in file words list) × PortsValid (state_in file words list)
@@ -149,16 +147,18 @@ unfolding RefusalNumber NoRow123
 call-number file words list k number q A e =
     let s = run (first_calls file k) (state_in file words list) in
     let at = byte_after file k in
-    let z = sizes_in file in
-    let c = call_at file z at in
+    let n = get_or file 0 0 in
+    let w = get_or file 1 0 in
+    let c = call_at file n w at in
     let S = first-valid file words list q in
+    let Z = run-sizes (first_calls file k) (state_in file words list) A in
     let four : 4 ≤ number = no_row_123 (first_calls file k) c (state_in file words list) number S.0 S.1 e in
     let most : number ≤ 14 = number-most number (refusal-number c s number e) in
-    let no : number ≡ 4 → ⊥ = λ u. not_four file (at + 1) z s (run-sizes (first_calls file k) (state_in file words list)) (kind_at file at) (e ∙ ap refused u) in
+    let no : number ≡ 4 → ⊥ = λ z. not_four file (at + 1) n w s Z.0 Z.1 (kind_at file at) (e ∙ ap refused z) in
     (omega arith, omega arith, λ z. omega arith, no)
 
 at-number : (file words list text : List ℕ) {number k : ℕ} → SectionsReady file words → AllAccepted (first_calls file k) (state_in file words list) → RefusedAt file words list text number k → CaseNumber number
-at-number file words list text q A (missing h e) = access-number file _ _ _ e
+at-number file words list text q A (missing h e) = access-number file _ _ _ _ e
 at-number file words list text {number} {k} q A (refused_call h s e) = call-number file words list k number q A e
 at-number file words list text q A (line_over h s a f e) = from-five _ (omega arith) (omega arith)
 at-number file words list text q A (bytes_left h l e) = from-five _ (omega arith) (omega arith)

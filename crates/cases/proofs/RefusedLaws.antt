@@ -6,17 +6,16 @@ use mathlib.Core.Logic.{◌⊎◌, inl, inr}
 use Prim.Native.Nat.{ℕ, zero, suc, ◌+◌, ◌<◌, ◌≤◌}
 use native.Mathlib.Omega.{arith}
 use lib.Dec.{ltb}
-use lib.ListN.{length, length-replicate, get_or-replicate}
+use lib.ListN.{length, get_or, length-replicate, get_or-replicate}
 use borrow.Author.Tests.{ltb-true, ltb-false}
 use Rattle.text.specs.Text.{Out, growing, appended}
 use Rattle.text.proofs.TextLaws.{appended-append, appended_is-full}
 use Rattle.lines.specs.Lines.{end_line}
-use Rattle.semantics.specs.declared.Sizes.{Sizes}
 use Rattle.model.specs.Step.{accepted, is_refused, step, run, AllAccepted}
 use Rattle.model.specs.Step as model
 use Rattle.format.specs.Accesses.{access_at}
 use Rattle.format.specs.Accesses as accesses
-use Rattle.format.specs.Sections.{Sections, ready, sizes_in, sections, accesses_in, first_at}
+use Rattle.format.specs.Sections.{Sections, ready, sections, accesses_in, first_at}
 use Rattle.format.specs.Sections as sections
 use Rattle.format.proofs.SectionLaws.{sections-read}
 use Rattle.cases.specs.Case.{line_of, Running, Next, stops, one, Ended, ended, stopped, last, after, rest, after_sections, whole, refuses, zeroed, closed, case_of}
@@ -25,30 +24,30 @@ use Rattle.cases.proofs.LastLaws.{last-left, last-printed}
 use Rattle.cases.proofs.WayLaws.{call_here, after_one, StandsHere, answer_here, Way, goes_on, is_over, is_refused_by, is_missing, way}
 use Rattle.cases.proofs.CaseLaws.{same-sizes, start, begun}
 
--- why a running case with m accesses left stops by the number r after j of them, for these sizes
-data Why (file : List ℕ) (z : Sizes) (m : ℕ) (c : Running) (r j : ℕ) : Type 0 where
-  why_missing : j < m → access_at file (end_from file z c.at j) z ≡ accesses.refused r → Why file z m c r j
-  why_refused : j < m → StandsAt file z (end_from file z c.at j) → (step (call_at file z (end_from file z c.at j)) (run (calls_from file z c.at j) c.state)).answer ≡ model.refused r → Why file z m c r j
-  why_over : j < m → StandsAt file z (end_from file z c.at j) → is_refused (step (call_at file z (end_from file z c.at j)) (run (calls_from file z c.at j) c.state)).answer ≡ false
-      → (appended (access_lines (calls_from file z c.at (suc j)) c.state) c.text).text.full ≡ true → r ≡ 13 → Why file z m c r j
-  why_left : j ≡ m → end_from file z c.at j < length file → r ≡ 12 → Why file z m c r j
-  why_end : j ≡ m → length file ≤ end_from file z c.at j → (appended (lines_of (calls_from file z c.at m) c.state) c.text).text.full ≡ true → r ≡ 13 → Why file z m c r j
+-- why a running case with m accesses left stops by the number r after j of them, for n and w
+data Why (file : List ℕ) (n w m : ℕ) (c : Running) (r j : ℕ) : Type 0 where
+  why_missing : j < m → access_at file (end_from file n w c.at j) n w ≡ accesses.refused r → Why file n w m c r j
+  why_refused : j < m → StandsAt file n w (end_from file n w c.at j) → (step (call_at file n w (end_from file n w c.at j)) (run (calls_from file n w c.at j) c.state)).answer ≡ model.refused r → Why file n w m c r j
+  why_over : j < m → StandsAt file n w (end_from file n w c.at j) → is_refused (step (call_at file n w (end_from file n w c.at j)) (run (calls_from file n w c.at j) c.state)).answer ≡ false
+      → (appended (access_lines (calls_from file n w c.at (suc j)) c.state) c.text).text.full ≡ true → r ≡ 13 → Why file n w m c r j
+  why_left : j ≡ m → end_from file n w c.at j < length file → r ≡ 12 → Why file n w m c r j
+  why_end : j ≡ m → length file ≤ end_from file n w c.at j → (appended (lines_of (calls_from file n w c.at m) c.state) c.text).text.full ≡ true → r ≡ 13 → Why file n w m c r j
 
-record Stops (file : List ℕ) (z : Sizes) (m : ℕ) (c : Running) (r j : ℕ) : Type 0 where
+record Stops (file : List ℕ) (n w m : ℕ) (c : Running) (r j : ℕ) : Type 0 where
   few : j ≤ m
-  stand : AllStand file z c.at j
-  accepted : AllAccepted (calls_from file z c.at j) c.state
-  printed : (appended (access_lines (calls_from file z c.at j) c.state) c.text).text.full ≡ false
-  why : Why file z m c r j
+  stand : AllStand file n w c.at j
+  accepted : AllAccepted (calls_from file n w c.at j) c.state
+  printed : (appended (access_lines (calls_from file n w c.at j) c.state) c.text).text.full ≡ false
+  why : Why file n w m c r j
 
 -- after none of them
-stops-none : (file : List ℕ) (z : Sizes) (m : ℕ) (c : Running) (r : ℕ) → c.text.text.full ≡ false → Why file z m c r 0 → Stops file z m c r 0
+stops-none : (file : List ℕ) (n w m : ℕ) (c : Running) (r : ℕ) → c.text.text.full ≡ false → Why file n w m c r 0 → Stops file n w m c r 0
 unfolding calls_from appended
-stops-none file z m c r f y = record { few = omega arith; stand = tt; accepted = tt; printed = f; why = y }
+stops-none file n w m c r f y = record { few = omega arith; stand = tt; accepted = tt; printed = f; why = y }
 
 -- after one more
 module _ (file : List ℕ) (m : ℕ) (c : Running) (r j : ℕ) where
-  why-more : Why file c.state.rec.sizes m (after_one file c) r j → Why file c.state.rec.sizes (suc m) c r (suc j)
+  why-more : Why file c.state.rec.sizes.n c.state.rec.sizes.w m (after_one file c) r j → Why file c.state.rec.sizes.n c.state.rec.sizes.w (suc m) c r (suc j)
   unfolding calls_from end_from run
   why-more (why_missing h e) = why_missing (omega arith) e
   why-more (why_refused h s e) = why_refused (omega arith) s e
@@ -56,7 +55,7 @@ module _ (file : List ℕ) (m : ℕ) (c : Running) (r j : ℕ) where
   why-more (why_left h l e) = why_left (omega arith) l e
   why-more (why_end h l f e) = why_end (omega arith) l (ap (λ (o : Out). o.text.full) (appended-append _ _ c.text) ∙ f) e
 
-  stops-more : StandsHere file c → is_refused (answer_here file c) ≡ false → Stops file c.state.rec.sizes m (after_one file c) r j → Stops file c.state.rec.sizes (suc m) c r (suc j)
+  stops-more : StandsHere file c → is_refused (answer_here file c) ≡ false → Stops file c.state.rec.sizes.n c.state.rec.sizes.w m (after_one file c) r j → Stops file c.state.rec.sizes.n c.state.rec.sizes.w (suc m) c r (suc j)
   unfolding calls_from end_from run
   stops-more s a S =
       record {
@@ -68,23 +67,23 @@ module _ (file : List ℕ) (m : ℕ) (c : Running) (r j : ℕ) where
       }
 
 -- a case that stops after k, of which i were done before
-record Stopped (file : List ℕ) (z : Sizes) (m i : ℕ) (c : Running) (r k : ℕ) : Type 0 where
+record Stopped (file : List ℕ) (n w m i : ℕ) (c : Running) (r k : ℕ) : Type 0 where
   count : ℕ
   is : k ≡ i + count
-  stops : Stops file z m c r count
+  stops : Stops file n w m c r count
 
-last-stopped : (file : List ℕ) (i : ℕ) (c : Running) (r k : ℕ) → last file i c ≡ stopped r k → (k ≡ i) × Why file c.state.rec.sizes 0 c r 0
+last-stopped : (file : List ℕ) (i : ℕ) (c : Running) (r k : ℕ) → last file i c ≡ stopped r k → (k ≡ i) × Why file c.state.rec.sizes.n c.state.rec.sizes.w 0 c r 0
 unfolding calls_from end_from
 last-stopped file i c r k e = go (ltb c.at (length file)) refl
   where
     end : Out
     end = appended (end_line c.state.rec.entries) c.text
 
-    full : (f : Bool) → end.text.full ≡ f → length file ≤ c.at → cond f (stopped 13 i) (ended c.state end) ≡ stopped r k → (k ≡ i) × Why file c.state.rec.sizes 0 c r 0
+    full : (f : Bool) → end.text.full ≡ f → length file ≤ c.at → cond f (stopped 13 i) (ended c.state end) ≡ stopped r k → (k ≡ i) × Why file c.state.rec.sizes.n c.state.rec.sizes.w 0 c r 0
     full true q h e = (cc, why_end refl h q cc)
     full false q h e = let z : ◌≡◌ {A = ℕ} 0 1 = cc in absurd (omega arith)
 
-    go : (f : Bool) → ltb c.at (length file) ≡ f → (k ≡ i) × Why file c.state.rec.sizes 0 c r 0
+    go : (f : Bool) → ltb c.at (length file) ≡ f → (k ≡ i) × Why file c.state.rec.sizes.n c.state.rec.sizes.w 0 c r 0
     go true q =
         let h : c.at < length file = ltb-true c.at (length file) q in
         let u : stopped 12 i ≡ stopped r k = sym (last-left file i c h) ∙ e in
@@ -93,30 +92,32 @@ last-stopped file i c r k e = go (ltb c.at (length file)) refl
         let h : length file ≤ c.at = ltb-false c.at (length file) q in
         full end.text.full refl h (sym (last-printed file i c h) ∙ e)
 
-rest-stopped : (file : List ℕ) (m i : ℕ) (c : Running) (r k : ℕ) → c.text.text.full ≡ false → rest file m i c ≡ stopped r k → Stopped file c.state.rec.sizes m i c r k
+rest-stopped : (file : List ℕ) (m i : ℕ) (c : Running) (r k : ℕ) → c.text.text.full ≡ false → rest file m i c ≡ stopped r k → Stopped file c.state.rec.sizes.n c.state.rec.sizes.w m i c r k
 unfolding rest calls_from end_from run
 rest-stopped file zero i c r k f e =
     let L = last-stopped file i c r k e in
-    record { count = 0; is = omega (arith, L.0); stops = stops-none file c.state.rec.sizes 0 c r f L.1 }
+    record { count = 0; is = omega (arith, L.0); stops = stops-none file c.state.rec.sizes.n c.state.rec.sizes.w 0 c r f L.1 }
 rest-stopped file (suc m) i c r k f e = go (λ d. rest-stopped file m (suc i) d r k) (way file c)
   where
     from : {x : Next} → one file c ≡ x → after x i (rest file m (suc i)) ≡ stopped r k
     from q = ap (λ (x : Next). after x i (rest file m (suc i))) (sym q) ∙ e
 
-    here : {a : ℕ} → one file c ≡ stops a → (r ≡ a → Why file c.state.rec.sizes (suc m) c r 0) → Stopped file c.state.rec.sizes (suc m) i c r k
+    here : {a : ℕ} → one file c ≡ stops a → (r ≡ a → Why file c.state.rec.sizes.n c.state.rec.sizes.w (suc m) c r 0) → Stopped file c.state.rec.sizes.n c.state.rec.sizes.w (suc m) i c r k
     here {a} q y =
         let u : stopped a i ≡ stopped r k = from q in
         let v : r ≡ a = cc in
         let z : k ≡ i = cc in
-        record { count = 0; is = omega arith; stops = stops-none file c.state.rec.sizes (suc m) c r f (y v) }
+        record { count = 0; is = omega arith; stops = stops-none file c.state.rec.sizes.n c.state.rec.sizes.w (suc m) c r f (y v) }
 
-    first : appended (access_lines (calls_from file c.state.rec.sizes c.at 1) c.state) c.text ≡ (after_one file c).text
+    first : appended (access_lines (calls_from file c.state.rec.sizes.n c.state.rec.sizes.w c.at 1) c.state) c.text ≡ (after_one file c).text
     first = ap (λ (l : List ℕ). appended l c.text) (append-nil (line_of (answer_here file c) (after_one file c).state))
 
-    go : ((d : Running) → d.text.text.full ≡ false → rest file m (suc i) d ≡ stopped r k → Stopped file d.state.rec.sizes m (suc i) d r k) → Way file c → Stopped file c.state.rec.sizes (suc m) i c r k
+    go : ((d : Running) → d.text.text.full ≡ false → rest file m (suc i) d ≡ stopped r k → Stopped file d.state.rec.sizes.n d.state.rec.sizes.w m (suc i) d r k) → Way file c → Stopped file c.state.rec.sizes.n c.state.rec.sizes.w (suc m) i c r k
     go again (goes_on q s a g) =
         let d = after_one file c in
-        let S : Stopped file c.state.rec.sizes m (suc i) d r k = subst (λ (x : Sizes). Stopped file x m (suc i) d r k) (same-sizes (call_here file c) c.state) (again d g (from q)) in
+        let Z = same-sizes (call_here file c) c.state a in
+        let S : Stopped file c.state.rec.sizes.n c.state.rec.sizes.w m (suc i) d r k =
+        subst (λ (x : ℕ). Stopped file c.state.rec.sizes.n x m (suc i) d r k) Z.1 (subst (λ (x : ℕ). Stopped file x d.state.rec.sizes.w m (suc i) d r k) Z.0 (again d g (from q))) in
         record { count = suc S.count; is = omega (arith, S.is); stops = stops-more file m c r S.count s a S.stops }
     go again (is_over q s a g) = here q (λ v. why_over (omega arith) s a (ap (λ (o : Out). o.text.full) first ∙ g) v)
     go again (is_refused_by x q s g) = here q (λ v. why_refused (omega arith) s (g ∙ ap model.refused (sym v)))
@@ -131,7 +132,7 @@ short-enough xs text e = let h : 0 + length xs ≤ length text = ltb-false (leng
 
 -- the same of a file
 module _ (file words list text : List ℕ) where
-  refused_at : {r j : ℕ} → Why file (sizes_in file) (accesses_in file) (start file words list text) r j → RefusedAt file words list text r j
+  refused_at : {r j : ℕ} → Why file (get_or file 0 0) (get_or file 1 0) (accesses_in file) (start file words list text) r j → RefusedAt file words list text r j
   refused_at (why_missing h e) = missing h e
   refused_at (why_refused h s e) = refused_call h s e
   refused_at (why_over h s a f e) = line_over h s a (too_long _ text f) e
@@ -141,7 +142,7 @@ module _ (file words list text : List ℕ) where
   -- how a case is refused, its buffers aside
   record Refuses (r k : ℕ) : Type 0 where
     few : k ≤ accesses_in file
-    stand : AllStand file (sizes_in file) (first_at file) k
+    stand : AllStand file (get_or file 0 0) (get_or file 1 0) (first_at file) k
     accepted : AllAccepted (first_calls file k) (state_in file words list)
     fits : length (access_lines (first_calls file k) (state_in file words list)) ≤ length text
     reason : (((sections file words).1 ≡ sections.refused r) × (k ≡ 0)) ⊎ (SectionsReady file words × RefusedAt file words list text r k)
@@ -150,7 +151,7 @@ module _ (file words list text : List ℕ) where
   unfolding calls_from
   in-sections {r} q z = subst (Refuses r) (sym z) (record { few = omega arith; stand = tt; accepted = tt; fits = omega arith; reason = inl (q, refl) })
 
-  in-accesses : {r k : ℕ} → SectionsReady file words → Stopped file (sizes_in file) (accesses_in file) 0 (start file words list text) r k → Refuses r k
+  in-accesses : {r k : ℕ} → SectionsReady file words → Stopped file (get_or file 0 0) (get_or file 1 0) (accesses_in file) 0 (start file words list text) r k → Refuses r k
   in-accesses {r} {k} q S =
       let T = S.stops in
       let v : S.count ≡ k = omega (arith, S.is) in
@@ -161,10 +162,10 @@ module _ (file words list text : List ℕ) where
   whole-stopped r k e = go (sections file words).1 refl e
     where
       go : (x : Sections) → (sections file words).1 ≡ x → after_sections file (sections file words).0 x list text ≡ stopped r k → Refuses r k
-      go (ready z count m at) q e =
+      go (ready n w count m at) q e =
           let ws = (sections file words).0 in
-          let R = sections-read file words {ws = ws} {z = z} {count = count} {accesses = m} {at = at} (ap (λ (y : Sections). (ws, y)) (sym q)) in
-          in-accesses (q ∙ (λ i. ready (R.sizes_are i) (R.count_is i) (R.accesses_is i) (R.at_is i)))
+          let R = sections-read file words {ws = ws} {n = n} {w = w} {count = count} {accesses = m} {at = at} (ap (λ (y : Sections). (ws, y)) (sym q)) in
+          in-accesses (q ∙ (λ i. ready (R.n_is i) (R.w_is i) (R.count_is i) (R.accesses_is i) (R.at_is i)))
           (rest-stopped file (accesses_in file) 0 (start file words list text) r k refl (sym (begun file words list text q) ∙ e))
       go (sections.refused a) q e = let u : r ≡ a = cc in let z : k ≡ 0 = cc in in-sections (q ∙ ap sections.refused (sym u)) z
 

@@ -2,8 +2,6 @@
 use Rattle.std.specs.Prelude.{true, false, cond, List, [], ℕ, zero, suc, ◌*◌, ltb, length, get_or, take, replicate}
 use Rattle.text.specs.Text.{Out, growing, appended}
 use Rattle.lines.specs.Lines.{write_line, idle_line, read_line, assert_line, check_line, end_line, refused_line}
-use Rattle.semantics.specs.declared.Sizes.{Sizes}
-use Rattle.semantics.specs.Sizes.{data_bits}
 use Rattle.model.specs.Record.{Record, fresh_ports}
 use Rattle.model.specs.Step.{State, write, read, assert, check, evaluate, Call, access, node_call, Given, place, idle, filled, entered, kept, accepted, valued, node, triples, Answer, step}
 use Rattle.model.specs.Step as step
@@ -18,13 +16,13 @@ use Rattle.format.specs.Sections as sections
 abbrev pub field : List (List ℕ) → ℕ → List ℕ
 field values i = get_or values i []
 
--- the call of a kind with these fields, for these sizes. A read is lent words of its own. No access of an unknown kind is found
-unfoldable pub call_of : Kind → Sizes → List (List ℕ) → Call
-call_of kind.Write z v = access (write (field v 0) (field v 1) (field v 2))
-call_of kind.Read z v = access (read (get_or (field v 0) 0 0) (field v 1) (field v 2) (replicate (2 * data_bits z) 0))
-call_of kind.Assert z v = access (assert (get_or (field v 0) 0 0) (field v 1) (field v 2))
-call_of kind.Check z v = access (check (get_or (field v 0) 0 0) (field v 1) (field v 2))
-call_of kind.Unknown z v = node_call (evaluate 0 0)
+-- the call of a kind with these fields, for w data bits. A read is lent words of its own. No access of an unknown kind is found
+unfoldable pub call_of : Kind → ℕ → List (List ℕ) → Call
+call_of kind.Write w v = access (write (field v 0) (field v 1) (field v 2))
+call_of kind.Read w v = access (read (get_or (field v 0) 0 0) (field v 1) (field v 2) (replicate (2 * w) 0))
+call_of kind.Assert w v = access (assert (get_or (field v 0) 0 0) (field v 1) (field v 2))
+call_of kind.Check w v = access (check (get_or (field v 0) 0 0) (field v 1) (field v 2))
+call_of kind.Unknown w v = node_call (evaluate 0 0)
 
 -- "Lines: a write's entry place; a read's h:l for each bit ..; the check condition", and 02's `write idle`. "An assert prints `assert entered` or `assert kept`, a space, the assert condition.": the line of an access by its answer and the state after it
 abbrev pub given_line : Given → State → List ℕ
@@ -68,13 +66,14 @@ done c s at o = said (step c s).answer (step c s).after at o
 
 -- an access found, from which the reading goes on to a byte; or not found
 abbrev pub done_as : Found → ℕ → State → Out → Next
-done_as (found k values) next s o = done (call_of k s.rec.sizes values) s next o
+done_as (found k values) next s o = done (call_of k s.rec.sizes.w values) s next o
 done_as (accesses.refused k) next s o = stops k
 
 unfoldable pub one : List ℕ → Running → Next
 one file c =
-    let z = c.state.rec.sizes in
-    done_as (access_at file c.at z) (goes_on file c.at z) c.state c.text
+    let n = c.state.rec.sizes.n in
+    let w = c.state.rec.sizes.w in
+    done_as (access_at file c.at n w) (goes_on file c.at n w) c.state c.text
 
 -- all accesses are done and the last line printed; or a refusal's number, and the accesses already printed
 pub data Ended : Type 0 where
@@ -100,7 +99,7 @@ rest file (suc m) k c = after (one file c) k (rest file m (suc k))
 
 -- the sections, and the accesses from a fresh record with the file's nodes on, and ports of its own; the text being empty
 abbrev pub after_sections : List ℕ → List ℕ → Sections → List ℕ → List ℕ → Ended
-after_sections file ws (ready z count m at) list text = rest file m 0 (record { state = record { rec = first_record z count; words = ws; list = list; ports = fresh_ports }; at = at; text = growing text 0 })
+after_sections file ws (ready n w count m at) list text = rest file m 0 (record { state = record { rec = first_record n w count; words = ws; list = list; ports = fresh_ports }; at = at; text = growing text 0 })
 after_sections file ws (sections.refused k) list text = stopped k 0
 
 unfoldable pub whole : List ℕ → List ℕ → List ℕ → List ℕ → Ended

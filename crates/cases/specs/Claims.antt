@@ -5,34 +5,33 @@ use Rattle.conditions.specs.Assignment.{bit_at}
 use Rattle.lines.specs.Lines.{write_line, idle_line, read_line, assert_line, check_line, end_line, refused_line}
 use Rattle.model.specs.Record.{Record, fresh_ports}
 use Rattle.model.specs.Step.{State, Access, write, read, assert, check, Call, access, Answer, refused, is_refused, answer_words, Result, step, run, AllAccepted}
-use Rattle.semantics.specs.declared.Sizes.{Sizes}
 use Rattle.semantics.specs.Array.{Run, observed, Allowed}
 use Rattle.model.specs.Claims.{fed, events, Exactly}
 use Rattle.model.specs.Table.{NeverOne, MayBeOne}
 use Rattle.model.specs.Count.{entry_count, DiffersUnder}
 use Rattle.format.specs.Accesses.{found, kind_at, held_at, end_of, access_at}
 use Rattle.format.specs.Accesses as accesses
-use Rattle.format.specs.Sections.{sizes_in, nodes_in, accesses_in, first_at, record_in, stored, ready, sections}
+use Rattle.format.specs.Sections.{nodes_in, accesses_in, first_at, record_in, stored, ready, sections}
 use Rattle.format.specs.Sections as sections
 use Rattle.cases.specs.Case.{call_of, line_of, accepts, refuses, Case, case_of, output_of, bytes_of}
 
--- the call whose kind byte stands at a place, for these sizes
-abbrev pub call_at : List ℕ → Sizes → ℕ → Call
-call_at file z at = call_of (kind_at file at) z (held_at file at z)
+-- the call whose kind byte stands at a place, for n and w
+abbrev pub call_at : List ℕ → ℕ → ℕ → ℕ → Call
+call_at file n w at = call_of (kind_at file at) w (held_at file at n w)
 
 -- m calls, each from the byte after the one before it
-unfoldable pub calls_from : List ℕ → Sizes → ℕ → ℕ → List Call
-calls_from file z at zero = []
-calls_from file z at (suc m) = call_at file z at ∷ calls_from file z (end_of file at z) m
+unfoldable pub calls_from : List ℕ → ℕ → ℕ → ℕ → ℕ → List Call
+calls_from file n w at zero = []
+calls_from file n w at (suc m) = call_at file n w at ∷ calls_from file n w (end_of file at n w) m
 
 -- the byte after them
-unfoldable pub end_from : List ℕ → Sizes → ℕ → ℕ → ℕ
-end_from file z at zero = at
-end_from file z at (suc m) = end_from file z (end_of file at z) m
+unfoldable pub end_from : List ℕ → ℕ → ℕ → ℕ → ℕ → ℕ
+end_from file n w at zero = at
+end_from file n w at (suc m) = end_from file n w (end_of file at n w) m
 
 -- the calls of a file
 abbrev pub calls_in : List ℕ → List Call
-calls_in file = calls_from file (sizes_in file) (first_at file) (accesses_in file)
+calls_in file = calls_from file (get_or file 0 0) (get_or file 1 0) (first_at file) (accesses_in file)
 
 -- the state that its sections give, with ports of its own
 abbrev pub state_in : List ℕ → List ℕ → List ℕ → State
@@ -90,23 +89,23 @@ CheckLine = (b : ℕ) (a d : List ℕ) (s : State) → IsAccepted (check b a d) 
 
 -- the sections of a file are read
 abbrev pub SectionsReady : List ℕ → List ℕ → Type 0
-SectionsReady file words = (sections file words).1 ≡ ready (sizes_in file) (nodes_in file + 2) (accesses_in file) (first_at file)
+SectionsReady file words = (sections file words).1 ≡ ready (get_or file 0 0) (get_or file 1 0) (nodes_in file + 2) (accesses_in file) (first_at file)
 
--- an access stands at this place, for these sizes
-abbrev pub StandsAt : List ℕ → Sizes → ℕ → Type 0
-StandsAt file z at = access_at file at z ≡ found (kind_at file at) (held_at file at z)
+-- an access stands at this place, for n and w
+abbrev pub StandsAt : List ℕ → ℕ → ℕ → ℕ → Type 0
+StandsAt file n w at = access_at file at n w ≡ found (kind_at file at) (held_at file at n w)
 
 -- m accesses stand there, each from the byte after the one before it
-abbrev pub AllStand : List ℕ → Sizes → ℕ → ℕ → Type 0
-AllStand file z at zero = Unit {0}
-AllStand file z at (suc m) = StandsAt file z at × AllStand file z (end_of file at z) m
+abbrev pub AllStand : List ℕ → ℕ → ℕ → ℕ → ℕ → Type 0
+AllStand file n w at zero = Unit {0}
+AllStand file n w at (suc m) = StandsAt file n w at × AllStand file n w (end_of file at n w) m
 
 -- a case that answered the text length k and the record r, and left c: its sections are read; its accesses stand there, and the file ends with the last; all its calls are accepted; record, node words
 -- and list are those that they leave; and the text is their lines, k bytes, while it "leaves later text bytes untouched"
 pub record Printed (file words list text : List ℕ) (k : ℕ) (r : Record) (c : Case) : Type 0 where
   pub read : SectionsReady file words
-  pub stand : AllStand file (sizes_in file) (first_at file) (accesses_in file)
-  pub ends : end_from file (sizes_in file) (first_at file) (accesses_in file) ≡ length file
+  pub stand : AllStand file (get_or file 0 0) (get_or file 1 0) (first_at file) (accesses_in file)
+  pub ends : end_from file (get_or file 0 0) (get_or file 1 0) (first_at file) (accesses_in file) ≡ length file
   pub accepted : AllAccepted (calls_in file) (state_in file words list)
   pub last : r ≡ (run (calls_in file) (state_in file words list)).rec
   pub nodes : c.words ≡ (run (calls_in file) (state_in file words list)).words
@@ -121,9 +120,9 @@ CaseText = (file words list text : List ℕ) (k : ℕ) (r : Record) → (case_of
 -- a case with nothing to refuse: its sections are read; its accesses stand there, and their calls are accepted; the file ends with the last; and the text buffer takes the lines
 pub record Acceptable (file words list text : List ℕ) : Type 0 where
   pub read : SectionsReady file words
-  pub stand : AllStand file (sizes_in file) (first_at file) (accesses_in file)
+  pub stand : AllStand file (get_or file 0 0) (get_or file 1 0) (first_at file) (accesses_in file)
   pub accepted : AllAccepted (calls_in file) (state_in file words list)
-  pub ends : end_from file (sizes_in file) (first_at file) (accesses_in file) ≡ length file
+  pub ends : end_from file (get_or file 0 0) (get_or file 1 0) (first_at file) (accesses_in file) ≡ length file
   pub fits : length (lines_of (calls_in file) (state_in file words list)) ≤ length text
 
 -- it is accepted
@@ -133,21 +132,21 @@ CaseAccepted = (file words list text : List ℕ) → Acceptable file words list 
 
 -- the first k calls of a file, and the byte after them
 abbrev pub first_calls : List ℕ → ℕ → List Call
-first_calls file k = calls_from file (sizes_in file) (first_at file) k
+first_calls file k = calls_from file (get_or file 0 0) (get_or file 1 0) (first_at file) k
 
 abbrev pub byte_after : List ℕ → ℕ → ℕ
-byte_after file k = end_from file (sizes_in file) (first_at file) k
+byte_after file k = end_from file (get_or file 0 0) (get_or file 1 0) (first_at file) k
 
 -- what the access after them answers
 abbrev pub answer_after : List ℕ → List ℕ → List ℕ → ℕ → Answer
-answer_after file words list k = (step (call_at file (sizes_in file) (byte_after file k)) (run (first_calls file k) (state_in file words list))).answer
+answer_after file words list k = (step (call_at file (get_or file 0 0) (get_or file 1 0) (byte_after file k)) (run (first_calls file k) (state_in file words list))).answer
 
 -- why a case whose sections are read is refused by a number after k accesses: the next is not there, or its call is refused, or its line does not fit; or all are printed, and bytes are
 -- left, or the last line does not fit
 pub data RefusedAt (file words list text : List ℕ) (number k : ℕ) : Type 0 where
-  missing : k < accesses_in file → access_at file (byte_after file k) (sizes_in file) ≡ accesses.refused number → RefusedAt file words list text number k
-  refused_call : k < accesses_in file → StandsAt file (sizes_in file) (byte_after file k) → answer_after file words list k ≡ refused number → RefusedAt file words list text number k
-  line_over : k < accesses_in file → StandsAt file (sizes_in file) (byte_after file k) → is_refused (answer_after file words list k) ≡ false
+  missing : k < accesses_in file → access_at file (byte_after file k) (get_or file 0 0) (get_or file 1 0) ≡ accesses.refused number → RefusedAt file words list text number k
+  refused_call : k < accesses_in file → StandsAt file (get_or file 0 0) (get_or file 1 0) (byte_after file k) → answer_after file words list k ≡ refused number → RefusedAt file words list text number k
+  line_over : k < accesses_in file → StandsAt file (get_or file 0 0) (get_or file 1 0) (byte_after file k) → is_refused (answer_after file words list k) ≡ false
       → length text < length (access_lines (first_calls file (suc k)) (state_in file words list)) → number ≡ 13 → RefusedAt file words list text number k
   bytes_left : k ≡ accesses_in file → byte_after file k < length file → number ≡ 12 → RefusedAt file words list text number k
   end_over : k ≡ accesses_in file → length file ≤ byte_after file k → length text < length (lines_of (calls_in file) (state_in file words list)) → number ≡ 13 → RefusedAt file words list text number k
@@ -164,7 +163,7 @@ pub record RefusedAfter (file words list text : List ℕ) (number after : ℕ) (
   pub entries : Zeroed list c.list
   pub bytes : Zeroed text c.text
   pub few : after ≤ accesses_in file
-  pub stand : AllStand file (sizes_in file) (first_at file) after
+  pub stand : AllStand file (get_or file 0 0) (get_or file 1 0) (first_at file) after
   pub accepted : AllAccepted (first_calls file after) (state_in file words list)
   pub fits : length (access_lines (first_calls file after) (state_in file words list)) ≤ length text
   pub reason : (((sections file words).1 ≡ sections.refused number) × (after ≡ 0)) ⊎ (SectionsReady file words × RefusedAt file words list text number after)

@@ -22,4 +22,4 @@ did X e M = record { is = e; sound = record { standard = rw (← e) at X.standar
 
 -- a table of zeros is right in any store
 pub zeros-sound : {w : List ℕ} (s : Store) (n : ℕ) → Standard w s.count → Sound w (replicate n 0) s
-zeros-sound {w} s n g = record { standard = g; table = remembers-zeros n w s }
+zeros-sound {w} s n g = record { standard = g; table = remembers-zeros n w s g }

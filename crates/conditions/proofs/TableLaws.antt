@@ -1,4 +1,4 @@
--- The computed table changes nothing of what Ite and Make of a variable leave: what it has is their answer, and stays so as the store grows.
+-- The computed table changes nothing of what Ite leaves: what it has is Ite's answer, and stays so as the store grows.
 use mathlib.Core.Path.{◌≡◌, refl, sym, ap, ◌∙◌}
 use mathlib.Core.Bool.{Bool, true, false, cond}
 use mathlib.Core.Logic.{◌⊎◌, inl, inr}
@@ -16,17 +16,16 @@ use Rattle.diagrams.specs.declared.Parts.{Parts}
 use Rattle.operations.specs.declared.Plain.{Plain}
 use Rattle.operations.specs.declared.Plain.TheVariants.{Done, Split}
 use Rattle.operations.specs.Build.{Outcome, pure}
-use Rattle.operations.specs.Make.{Make, Variable}
+use Rattle.operations.specs.Make.{Make}
 use Rattle.operations.specs.Ite.{plain_of, parts_of, Ite}
-use Rattle.operations.specs.Meaning.{Stands, Builds}
+use Rattle.operations.specs.Meaning.{Builds}
 use Rattle.diagrams.specs.Keys.{key_of, slot_of}
-use Rattle.conditions.specs.Table.{recall_of, or_recall, known_of, remember_of, Known, Placed, Told, Remembers}
+use Rattle.conditions.specs.Table.{recall_of, or_recall, known_of, remember_of, Known, Remembers}
 use Rattle.operations.proofs.BuildLaws.{was_free}
 use Rattle.diagrams.proofs.PartsLaws.{Ready}
 use Rattle.diagrams.proofs.KeyLaws.{set_or}
 use Rattle.operations.proofs.IteLaws.{ready-builds, ite_bounds, ite-done, splits, split-make, split_all}
-use Rattle.operations.proofs.MakeLaws.{variable-builds}
-use Rattle.operations.proofs.AgainLaws.{Later, make-again, ite-again}
+use Rattle.operations.proofs.AgainLaws.{Later, ite-again}
 
 known-ready : {w : List ℕ} {s : Store} {f g h r : ℕ} → Standard w s.count → Known w s f g h r → Ready w s.count f g h
 known-ready S K = record { standard = S; first = K.first; second = K.second; third = K.third }
@@ -43,23 +42,9 @@ module _ {A : Type 0} {w : List ℕ} {s : Store} {P : List ℕ → Store → A �
             ∙ ap (λ (o : Outcome ℕ). pure o.answer x.words x.store) K.is;
       }
 
-  -- and so is a variable's node
-  placed_later : {v r : ℕ} → x.store.full ≡ false → Placed w s v r → Placed x.words x.store v r
-  placed_later {v} {r} e P =
-      record {
-        small = P.small;
-        is = make-again w s v 0 1 P.small (rw P.is (was_free X e)) x.words x.store (rw P.is (record { standard = X.standard; extends = X.extends; free = e }))
-            ∙ ap (λ (o : Outcome ℕ). pure o.answer x.words x.store) P.is;
-      }
-
   -- and so a table is
   pub remembers_later : {t : List ℕ} → Remembers t w s → Remembers t x.words x.store
-  remembers_later M =
-      record {
-        at = λ e i.
-            let T = M.at (was_free X e) i in
-            record { ite = λ n. known_later e (T.ite n); variable = λ z o. placed_later e (T.variable z o) };
-      }
+  remembers_later M = record { at = λ e i. known_later e (M.at (was_free X e) i) }
 
 -- what Ite answered it answers again
 pub ite-known : (w : List ℕ) (s : Store) (f g h : ℕ) {x : Outcome ℕ} → Ready w s.count f g h → x ≡ Ite f g h w s → x.store.full ≡ false → Known x.words x.store f g h x.answer
@@ -71,15 +56,6 @@ ite-known w s f g h {x} r ex e =
       second = omega (arith, r.second);
       third = omega (arith, r.third);
       is = ite-again w s f g h r (rw (← ex) e) x.words x.store (rw (← ex) (record { standard = rw ex X.standard; extends = extends_refl x.words x.store.count; free = e }))
-          ∙ ap (λ (o : Outcome ℕ). pure o.answer x.words x.store) (sym ex);
-    }
-
--- the node of a variable is found again
-variable-placed : (w : List ℕ) (s : Store) (v : ℕ) {x : Outcome ℕ} → Standard w s.count → v < 64 → x ≡ Variable v w s → x.store.full ≡ false → Placed x.words x.store v x.answer
-variable-placed w s v {x} S small ex e =
-    record {
-      small = small;
-      is = make-again w s v 0 1 small (rw (← ex) e) x.words x.store (rw (← ex) (record { standard = rw ex (variable-builds S small).standard; extends = extends_refl x.words x.store.count; free = e }))
           ∙ ap (λ (o : Outcome ℕ). pure o.answer x.words x.store) (sym ex);
     }
 
@@ -98,11 +74,11 @@ module _ (f g h r : ℕ) (lf : f < 16384) (lg : g < 16384) (lh : h < 16384) (lr 
   number-answer = omega arith
 
   -- a table with an answer more
-  pub remembers-more : {t w : List ℕ} {s : Store} → Remembers t w s → (s.full ≡ false → Told w s f g h r) → Remembers (remember_of t f g h r) w s
+  pub remembers-more : {t w : List ℕ} {s : Store} → Remembers t w s → (s.full ≡ false → Known w s f g h r) → Remembers (remember_of t f g h r) w s
   remembers-more {t} {w} {s} M K = record { at = λ e i. go e i (set_or t (slot_of f g h) i (key_of f g h * 16384 + r)) }
     where
       go : s.full ≡ false → (i : ℕ) → (get_or (remember_of t f g h r) i 0 ≡ key_of f g h * 16384 + r) ⊎ (get_or (remember_of t f g h r) i 0 ≡ get_or t i 0)
-          → Told w s (get_or (remember_of t f g h r) i 0 / 4398046511104) (get_or (remember_of t f g h r) i 0 / 268435456 % 16384) (get_or (remember_of t f g h r) i 0 / 16384 % 16384) (get_or (remember_of t f g h r) i 0 % 16384)
+          → Known w s (get_or (remember_of t f g h r) i 0 / 4398046511104) (get_or (remember_of t f g h r) i 0 / 268435456 % 16384) (get_or (remember_of t f g h r) i 0 / 16384 % 16384) (get_or (remember_of t f g h r) i 0 % 16384)
       go e i (inl z) = rw (z, number-first, number-second, number-third, number-answer) (K e)
       go e i (inr z) = rw z (M.at e i)
 
@@ -111,24 +87,32 @@ zeros zero i = refl
 zeros (suc n) zero = refl
 zeros (suc n) (suc i) = zeros n i
 
--- a table of zeros tells nothing
-pub remembers-zeros : (n : ℕ) (w : List ℕ) (s : Store) → Remembers (replicate n 0) w s
-remembers-zeros n w s = record { at = λ e i. rw (zeros n i) (record { ite = λ z. absurd (z refl); variable = λ z o. absurd (omega arith) }) }
+-- a table of zeros: Ite of 0, 0 and 0 is 0
+pub remembers-zeros : (n : ℕ) (w : List ℕ) (s : Store) → Standard w s.count → Remembers (replicate n 0) w s
+unfolding plain_of
+remembers-zeros n w s S =
+    record {
+      at = λ e i.
+          let t = S.two in
+          let r : Ready w s.count 0 0 0 = record { standard = S; first = omega arith; second = omega arith; third = omega arith } in
+          rw (zeros n i) (record { first = r.first; second = r.second; third = r.third; is = sym (ite-done w s 0 0 0 0 r (rw e)) });
+    }
 
--- what stands at the place of three numbers, if it is theirs
-recall-told : (t w : List ℕ) (s : Store) (f g h n : ℕ) → Remembers t w s → s.full ≡ false → f < 16384 → g < 16384 → h < 16384 → recall_of t f g h ≡ Done n → Told w s f g h n
+-- where the table has an answer it is Ite's
+recall_is : (t w : List ℕ) (s : Store) (f g h n : ℕ) → Remembers t w s → s.full ≡ false → f < 16384 → g < 16384 → h < 16384 → recall_of t f g h ≡ Done n → pure n w s ≡ Ite f g h w s
 unfolding recall_of
-recall-told t w s f g h n M free lf lg lh q =
+recall_is t w s f g h n M free lf lg lh q =
     split (eqb (get_or t (slot_of f g h) 0 / 16384) (key_of f g h))
     (λ k.
     let a = get_or t (slot_of f g h) 0 in
+    let K = M.at free (slot_of f g h) in
     let e : a / 16384 ≡ key_of f g h = eqb-true _ _ k in
     let e1 : a / 4398046511104 ≡ f = omega arith in
     let e2 : a / 268435456 % 16384 ≡ g = omega arith in
     let e3 : a / 16384 % 16384 ≡ h = omega arith in
     let z : Done (a % 16384) ≡ Done n = rw k at q in
     let y : a % 16384 ≡ n = cc in
-    rw (e1, e2, e3, y) at (M.at free (slot_of f g h)))
+    sym ((rw (e1, e2, e3) at K.is) ∙ ap (λ m. pure m w s) y))
     (λ k. let z : Split ≡ Done n = rw k at q in let y : ◌≡◌ {A = ℕ} 0 1 = cc in absurd (omega arith))
 
 module _ (t w : List ℕ) (s : Store) (f g h : ℕ) where
@@ -145,8 +129,7 @@ module _ (t w : List ℕ) (s : Store) (f g h : ℕ) where
           let y : m ≡ n = cc in
           ite-done w s f g h n r (rw y at e)
       go Split e =
-          let k = splits s.full f g h e in
-          sym ((recall-told t w s f g h n M k.free (most f r.first) (most g r.second) (most h r.third) (rw e at q)).ite k.not0).is
+          recall_is t w s f g h n M (splits s.full f g h e).free (most f r.first) (most g r.second) (most h r.third) (rw e at q)
 
 pub known_split : (t : List ℕ) (f g h : ℕ) (full : Bool) → known_of t full f g h ≡ Split → plain_of full f g h ≡ Split
 unfolding known_of
@@ -155,10 +138,6 @@ known_split t f g h full q = go (plain_of full f g h) refl
     go : (d : Plain) → plain_of full f g h ≡ d → plain_of full f g h ≡ Split
     go (Done m) e = let z : Done m ≡ Split = rw e at q in let y : ◌≡◌ {A = ℕ} 0 1 = cc in absurd (omega arith)
     go Split e = e
-
--- where the table has the node of a variable it is Make's
-pub recall-variable : (t w : List ℕ) (s : Store) (v n : ℕ) → Remembers t w s → s.full ≡ false → v < 64 → recall_of t 0 v 1 ≡ Done n → pure n w s ≡ Variable v w s
-recall-variable t w s v n M free small q = sym ((recall-told t w s 0 v 1 n M free (omega arith) (omega arith) (omega arith) q).variable refl refl).is
 
 -- the table after a new answer
 pub split_remembers : (w : List ℕ) (s : Store) (f g h : ℕ) (d : Parts) (r : Ready w s.count f g h) (e : plain_of s.full f g h ≡ Split) (ed : d ≡ parts_of w f g h) {x y z : Outcome ℕ} {t t' : List ℕ}
@@ -170,10 +149,4 @@ split_remembers w s f g h d r e ed {x} {y} {z} {t} {t'} ex ey ez S M et =
     let B = ite_bounds s r z-is in
     let m : Remembers t z.words z.store = rw ez (remembers_later S Z M) in
     let most = r.standard.most in
-    rw et (remembers-more f g h z.answer (omega (arith, r.first)) (omega (arith, r.second)) (omega (arith, r.third)) (omega (arith, B.0, B.1)) m (λ k. record { ite = λ n. ite-known w s f g h r z-is k; variable = λ o. absurd ((splits s.full f g h e).not0 o) }))
-
--- and after a variable's node
-pub variable_remembers : (w : List ℕ) (s : Store) (v : ℕ) {x : Outcome ℕ} {t t' : List ℕ} → Standard w s.count → v < 64 → x ≡ Variable v w s → Remembers t x.words x.store → t' ≡ remember_of t 0 v 1 x.answer → Remembers t' x.words x.store
-variable_remembers w s v {x} {t} {t'} S small ex M et =
-    let B : Builds w s (Stands v (λ φ. φ v)) x = rw ex (variable-builds S small) in
-    rw et (remembers-more 0 v 1 x.answer (omega arith) (omega arith) (omega arith) (omega (arith, B.post.below, B.standard.most)) M (λ k. record { ite = λ n. absurd (n refl); variable = λ z o. variable-placed w s v S small ex k }))
+    rw et (remembers-more f g h z.answer (omega (arith, r.first)) (omega (arith, r.second)) (omega (arith, r.third)) (omega (arith, B.0, B.1)) m (λ k. ite-known w s f g h r z-is k))

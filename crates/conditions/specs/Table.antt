@@ -1,11 +1,10 @@
--- The computed table: answers of Ite and the nodes of variables that were remembered, one to a number.
+-- The computed table: answers of Ite that were remembered, one to a number.
 use Rattle.std.specs.Prelude.{◌≡◌, Bool, true, false, cond, List, ℕ, ◌+◌, ◌*◌, ◌/◌, ◌%◌, ◌<◌, eqb, get_or, set}
 use Rattle.diagrams.specs.Keys.{key_of, slot_of}
 use Rattle.operations.specs.declared.Store.{Store}
 use Rattle.operations.specs.declared.Plain.{Plain}
 use Rattle.operations.specs.declared.Plain.TheVariants.{Done, Split}
 use Rattle.operations.specs.Build.{pure}
-use Rattle.operations.specs.Make.{Variable}
 use Rattle.operations.specs.Ite.{plain_of, Ite}
 
 -- what stands at the place of three nodes, if it is theirs
@@ -30,16 +29,6 @@ pub record Known (w : List ℕ) (s : Store) (f g h r : ℕ) : Type 0 where
   pub third : h < s.count
   pub is : Ite f g h w s ≡ pure r w s
 
--- that the node of variable v is r, which is there
-pub record Placed (w : List ℕ) (s : Store) (v r : ℕ) : Type 0 where
-  pub small : v < 64
-  pub is : Variable v w s ≡ pure r w s
-
--- what four numbers tell: of three nodes the answer of their Ite; of 0, v and 1 the node of variable v, for Ite(0,g,h) is h by a rule and never asked of the table
-pub record Told (w : List ℕ) (s : Store) (f g h r : ℕ) : Type 0 where
-  pub ite : (f ≡ 0 → ⊥) → Known w s f g h r
-  pub variable : f ≡ 0 → h ≡ 1 → Placed w s g r
-
--- each number of the table tells what is still so here; 0 tells nothing
+-- each number of the table is three nodes and the answer of their Ite, which is still the answer here; so is 0, for Ite(0,0,0) is 0
 pub record Remembers (t : List ℕ) (w : List ℕ) (s : Store) : Type 0 where
-  pub at : s.full ≡ false → (i : ℕ) → Told w s (get_or t i 0 / 4398046511104) (get_or t i 0 / 268435456 % 16384) (get_or t i 0 / 16384 % 16384) (get_or t i 0 % 16384)
+  pub at : s.full ≡ false → (i : ℕ) → Known w s (get_or t i 0 / 4398046511104) (get_or t i 0 / 268435456 % 16384) (get_or t i 0 / 16384 % 16384) (get_or t i 0 % 16384)

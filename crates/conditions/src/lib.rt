@@ -19,7 +19,7 @@ pub use operations::{Built, Store};
 use search::Found;
 pub use show::put_condition;
 
-// The computed table: remembered answers of Ite and nodes of variables, one to a number.
+// The computed table: remembered answers of Ite, one to a number.
 pub type Table = [u64; 32768];
 
 // The node with these three words: the one child if both are the same, else the lowest such node, else a new one.
@@ -99,7 +99,7 @@ fn settle(full: bool, f: u32, g: u32, h: u32) -> Plain
     Plain::Split
 }
 
-// What the table has for three numbers.
+// What the table has for three nodes.
 fn recall(table: &Table, f: u32, g: u32, h: u32) -> Plain
     requires { (f < 16384) × (g < 16384) × (h < 16384) }
     ensures { result ≡ recall_of table.now f g h }
@@ -206,25 +206,6 @@ pub fn variable(words: &mut [u32], table: &mut Table, s: Store, v: u32) -> Built
     ensures { Did s words.new table.new result (Variable v words.old s) }
 {
     make(words, s, v, 0, 1)
-}
-
-// The node of a variable, remembered.
-pub fn index(words: &mut [u32], table: &mut Table, s: Store, i: u32) -> Built
-    requires { Sound words.old table.old s × (i < 64) }
-    ensures { Did s words.new table.new result (Variable i words.old s) }
-{
-    if s.full {
-        return Built { store: s, node: 0 };
-    }
-    let p = recall(table, 0, i, 1);
-    match p {
-        Plain::Done(n) => Built { store: s, node: n },
-        Plain::Split => {
-            let x = variable(words, table, s, i);
-            remember(table, 0, i, 1, x.node);
-            x
-        }
-    }
 }
 
 // Whether an argument may name this node: below the count and on no index variable.

@@ -1,7 +1,5 @@
 -- 01, 'Case file': the fields of an access after its kind byte, in the order in which they stand. Size, places and values of an access all follow from them.
 use Rattle.std.specs.Prelude.{List, [], ◌∷◌, ℕ, ◌+◌, ◌*◌, get_or}
-use Rattle.semantics.specs.declared.Sizes.{Sizes}
-use Rattle.semantics.specs.Sizes.{cell_bits, data_bits}
 use Rattle.format.specs.declared.Kind.{Kind}
 use Rattle.format.specs.declared.Kind.TheVariants.{Write, Read, Assert, Check, Unknown}
 use Rattle.format.specs.Bytes.{numbers_at}
@@ -12,12 +10,12 @@ pub data Field : Type 0 where
   nodes : ℕ → Field
 
 -- "Then the control pair (b alone for 3 and 4), address, data (none for a read)"; 02: "A read in a case file has a port byte after its kind."
-unfoldable pub fields_of : Kind → Sizes → List Field
-fields_of Write z = nodes 2 ∷ nodes (2 * z.n) ∷ nodes (2 * data_bits z) ∷ []
-fields_of Read z = byte ∷ nodes 2 ∷ nodes (2 * z.n) ∷ []
-fields_of Assert z = nodes 1 ∷ nodes (2 * z.n) ∷ nodes (2 * cell_bits z) ∷ []
-fields_of Check z = nodes 1 ∷ nodes (2 * z.n) ∷ nodes (2 * cell_bits z) ∷ []
-fields_of Unknown z = []
+unfoldable pub fields_of : Kind → ℕ → ℕ → List Field
+fields_of Write n w = nodes 2 ∷ nodes (2 * n) ∷ nodes (2 * w) ∷ []
+fields_of Read n w = byte ∷ nodes 2 ∷ nodes (2 * n) ∷ []
+fields_of Assert n w = nodes 1 ∷ nodes (2 * n) ∷ nodes (2 * w) ∷ []
+fields_of Check n w = nodes 1 ∷ nodes (2 * n) ∷ nodes (2 * w) ∷ []
+fields_of Unknown n w = []
 
 -- the byte after fields that begin at a place: "every node 2 bytes"
 unfoldable pub fields_end : ℕ → List Field → ℕ

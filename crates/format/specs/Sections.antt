@@ -2,7 +2,6 @@
 use Rattle.std.specs.Prelude.{List, [], ◌∷◌, ◌++◌, ℕ, zero, suc, ◌+◌, ◌*◌, leb, length, get_or}
 use Rattle.nodes.specs.Words.{with_node, with_terminals}
 use Rattle.nodes.specs.Standard.{counted}
-use Rattle.semantics.specs.declared.Sizes.{Sizes}
 use Rattle.model.specs.Record.{Record}
 use Rattle.model.specs.Rows.{Row, first_row, row1, row2}
 use Rattle.model.specs.Record.{with_count}
@@ -16,32 +15,22 @@ with_nodes file at (suc k) words =
     let from = at + 5 * k in
     with_node (with_nodes file at k words) (2 + k) (get_or file from 0) (number_at file (from + 1)) (number_at file (from + 3))
 
--- the sizes, the node count, the count of accesses and the byte where they begin; or a refusal's number
+-- n, w, the node count, the count of accesses and the byte where they begin; or a refusal's number
 pub data Sections : Type 0 where
-  ready : Sizes → ℕ → ℕ → ℕ → Sections
+  ready : ℕ → ℕ → ℕ → ℕ → ℕ → Sections
   refused : ℕ → Sections
 
 -- the record with which a case begins: that of Fresh, with the file's nodes counted
-abbrev pub first_record : Sizes → ℕ → Record
-first_record z count = with_count (fresh_record z) count
+abbrev pub first_record : ℕ → ℕ → ℕ → Record
+first_record n w count = with_count (fresh_record (record { n = n; w = w })) count
 
--- "n and w (a byte each)", and the byte after them
-abbrev pub sizes_in : List ℕ → Sizes
-sizes_in file = record { n = get_or file 0 0; w = get_or file 1 0 }
-
-abbrev pub sizes_end : ℕ
-sizes_end = 2
-
--- "2-byte count of nodes", and the byte after it
+-- "2-byte count of nodes"
 abbrev pub nodes_in : List ℕ → ℕ
-nodes_in file = number_at file sizes_end
-
-abbrev pub nodes_from : ℕ
-nodes_from = sizes_end + 2
+nodes_in file = number_at file 2
 
 -- the byte after k nodes
 abbrev pub nodes_end : ℕ → ℕ
-nodes_end k = nodes_from + 5 * k
+nodes_end k = 4 + 5 * k
 
 -- "2-byte count of accesses", and the byte after it
 abbrev pub accesses_in : List ℕ → ℕ
@@ -52,19 +41,19 @@ first_at file = nodes_end (nodes_in file) + 2
 
 -- the record of the file
 abbrev pub record_in : List ℕ → Record
-record_in file = first_record (sizes_in file) (nodes_in file + 2)
+record_in file = first_record (get_or file 0 0) (get_or file 1 0) (nodes_in file + 2)
 
 -- the terminals and the file's nodes
 abbrev pub stored : List ℕ → List ℕ → List ℕ
-stored file words = with_nodes file nodes_from (nodes_in file) (with_terminals words)
+stored file words = with_nodes file 4 (nodes_in file) (with_terminals words)
 
 -- "Tests follow the file: .. missing bytes of a section .., then its content (a store below 6 words counts with the nodes)".
 -- First the tests up to the place where the nodes are stored,
 abbrev pub early_rows : List ℕ → List ℕ → List Row
 early_rows file words =
-    (10, leb sizes_end (length file))
+    (10, leb 2 (length file))
     ∷ (1, row1 (record_in file) words)
-    ∷ (10, leb nodes_from (length file))
+    ∷ (10, leb 4 (length file))
     ∷ (10, leb (nodes_end (nodes_in file)) (length file))
     ∷ (2, counted words (nodes_in file + 2))
     ∷ []
@@ -89,5 +78,5 @@ sections_unless (suc k) x = refused (suc k)
 unfoldable pub sections : List ℕ → List ℕ → List ℕ × Sections
 sections file words = (
   words_unless (first_row (early_rows file words)) (stored file words) words,
-  sections_unless (first_row (early_rows file words ++ late_rows file words)) (ready (sizes_in file) (nodes_in file + 2) (accesses_in file) (first_at file)),
+  sections_unless (first_row (early_rows file words ++ late_rows file words)) (ready (get_or file 0 0) (get_or file 1 0) (nodes_in file + 2) (accesses_in file) (first_at file)),
 )

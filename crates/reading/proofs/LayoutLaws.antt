@@ -3,8 +3,6 @@ use mathlib.Core.Path.{◌≡◌, refl, sym, ◌∙◌}
 use mathlib.Core.Bool.{true, false≢true}
 use Prim.Native.Nat.{ℕ, ◌+◌, ◌*◌, ◌≤◌}
 use native.Mathlib.Omega.{arith}
-use Rattle.semantics.specs.declared.Sizes.{Sizes}
-use Rattle.semantics.specs.Sizes.{cell_bits, data_bits}
 use Rattle.format.specs.declared.Kind.{Kind}
 use Rattle.format.specs.declared.Kind.TheVariants.{Write, Read, Assert, Check, Unknown}
 use Rattle.format.specs.Kinds.{is_known}
@@ -12,38 +10,37 @@ use Rattle.format.specs.Fields.{fields_of, fields_end}
 use Rattle.reading.specs.declared.Ends.{Ends}
 use Rattle.reading.specs.Layout.{lead_of, port_of, ends_of, size_of}
 
-module _ (z : Sizes) where
-  pub ends-write : ends_of Write z ≡ record { control = 2; address = 2 + 2 * z.n; word = 2 + 2 * z.n + 2 * data_bits z }
+module _ (n w : ℕ) where
+  pub ends-write : ends_of Write n w ≡ record { control = 2; address = 2 + 2 * n; word = 2 + 2 * n + 2 * w }
   unfolding ends_of fields_of
   ends-write = refl
 
-  pub ends_read : ends_of Read z ≡ record { control = 2; address = 2 + 2 * z.n; word = 2 + 2 * z.n }
+  pub ends_read : ends_of Read n w ≡ record { control = 2; address = 2 + 2 * n; word = 2 + 2 * n }
   unfolding ends_of fields_of
   ends_read = refl
 
-  pub ends-assert : ends_of Assert z ≡ record { control = 1; address = 1 + 2 * z.n; word = 1 + 2 * z.n + 2 * cell_bits z }
+  pub ends-assert : ends_of Assert n w ≡ record { control = 1; address = 1 + 2 * n; word = 1 + 2 * n + 2 * w }
   unfolding ends_of fields_of
   ends-assert = refl
 
-  pub ends-check : ends_of Check z ≡ record { control = 1; address = 1 + 2 * z.n; word = 1 + 2 * z.n + 2 * cell_bits z }
+  pub ends-check : ends_of Check n w ≡ record { control = 1; address = 1 + 2 * n; word = 1 + 2 * n + 2 * w }
   unfolding ends_of fields_of
   ends-check = refl
 
-  pub ends-unknown : ends_of Unknown z ≡ record { control = 0; address = 0; word = 0 }
+  pub ends-unknown : ends_of Unknown n w ≡ record { control = 0; address = 0; word = 0 }
   unfolding ends_of fields_of
   ends-unknown = refl
 
-  -- at most so many nodes, where a cell and an access's data have at most k words
-  pub size-most : (kind : Kind) (k : ℕ) → 2 * cell_bits z ≤ k → 2 * data_bits z ≤ k → size_of kind z ≤ 2 + 2 * z.n + k
+  pub size-most : (kind : Kind) → size_of kind n w ≤ 2 + 2 * n + 2 * w
   unfolding ends_of fields_of
-  size-most Write k c d = omega arith
-  size-most Read k c d = omega arith
-  size-most Assert k c d = omega arith
-  size-most Check k c d = omega arith
-  size-most Unknown k c d = omega arith
+  size-most Write = omega arith
+  size-most Read = omega arith
+  size-most Assert = omega arith
+  size-most Check = omega arith
+  size-most Unknown = omega arith
 
   -- an access of a kind has nodes; at most one byte stands before them
-  pub known-size : (kind : Kind) → is_known kind ≡ true → 1 ≤ size_of kind z
+  pub known-size : (kind : Kind) → is_known kind ≡ true → 1 ≤ size_of kind n w
   unfolding ends_of fields_of
   known-size Write e = omega arith
   known-size Read e = omega arith
@@ -52,7 +49,7 @@ module _ (z : Sizes) where
   known-size Unknown e = absurd (false≢true e)
 
   -- the bytes of the fields are these
-  pub fields_end_lem : (kind : Kind) (at : ℕ) → fields_end at (fields_of kind z) ≡ at + lead_of kind + 2 * size_of kind z
+  pub fields_end_lem : (kind : Kind) (at : ℕ) → fields_end at (fields_of kind n w) ≡ at + lead_of kind + 2 * size_of kind n w
   unfolding fields_end lead_of ends_of fields_of
   fields_end_lem Write at = omega arith
   fields_end_lem Read at = omega arith

@@ -1,6 +1,5 @@
 -- What the functions answer, in the words of `format`.
 use Rattle.std.specs.Prelude.{◌≡◌, List, ℕ, ◌+◌, get_or}
-use Rattle.semantics.specs.declared.Sizes.{Sizes}
 use Rattle.format.specs.Accesses.{Found, found, kind_at, access_at, goes_on}
 use Rattle.format.specs.Accesses as accesses
 use Rattle.format.specs.Sections.{Sections, ready}
@@ -25,9 +24,9 @@ answer_of file at (found kind values) = access.Here kind (port_in file at) (node
 answer_of file at (accesses.refused k) = access.Refused k
 
 abbrev pub sections_of : Loaded → Sections
-sections_of (loaded.Ready z count accesses at) = ready z count accesses at
+sections_of (loaded.Ready n w count accesses at) = ready n w count accesses at
 sections_of (loaded.Refused k) = sections.refused k
 
 -- the access at a place, and the byte from which a reading goes on
-abbrev pub Finds : Progress → List ℕ → ℕ → Sizes → Type 0
-Finds p file at z = (p.access ≡ answer_of file at (access_at file at z)) × (p.at ≡ goes_on file at z)
+abbrev pub Finds : Progress → List ℕ → ℕ → ℕ → ℕ → Type 0
+Finds p file at n w = (p.access ≡ answer_of file at (access_at file at n w)) × (p.at ≡ goes_on file at n w)

@@ -2,11 +2,10 @@
 ghost use Rattle.reading.specs.Contract.{Finds};
 
 use super::{Access, Progress, kinds};
-use semantics::Sizes;
 
-// The access at a place, for a memory of these sizes.
-pub fn find_access(bytes: &[u8], at: usize, z: Sizes) -> Progress
-    ensures { Finds result bytes.now at z }
+// The access at a place, for a memory of n address bits and w data bits.
+pub fn find_access(bytes: &[u8], at: usize, n: u32, w: u32) -> Progress
+    ensures { Finds result bytes.now at n w }
 {
     if bytes.len() <= at {
         return Progress {
@@ -21,7 +20,7 @@ pub fn find_access(bytes: &[u8], at: usize, z: Sizes) -> Progress
             at,
         };
     }
-    let size = kinds::lead(kind) + 2 * kinds::operands(kind, z);
+    let size = kinds::lead(kind) + 2 * kinds::operands(kind, n, w);
     let next = at + 1;
     if bytes.len() - next < size {
         return Progress {

@@ -1,11 +1,10 @@
 // The kinds of accesses.
-ghost use Rattle.std.specs.Prelude.{◌≡◌, ◌+◌, ◌*◌, ◌^◌, ◌<◌, ◌≤◌};
+ghost use Rattle.std.specs.Prelude.{◌≡◌, ◌+◌, ◌*◌, ◌≤◌};
 ghost use Rattle.format.specs.Kinds.{kind_of, is_known};
 ghost use Rattle.reading.specs.Layout.{lead_of, port_of, ends_of, size_of};
 
 use super::Ends;
 use format::Kind;
-use semantics::Sizes;
 
 // The kind that a byte selects.
 pub fn kind_of(b: u8) -> Kind
@@ -33,30 +32,30 @@ pub fn is_known(kind: Kind) -> bool
     }
 }
 
-// Where control, address and so many words of data end, which stand in this order.
-fn ends(control: usize, z: Sizes, word: usize) -> Ends
-    requires { (control ≤ 2) × (word < 2 ^ 33) }
-    ensures { (result.control ≡ control) × (result.address ≡ control + 2 * z.n) × (result.word ≡ control + 2 * z.n + word) }
+// Where control, address and data end, which stand in this order.
+fn ends(control: usize, n: u32, w: u32) -> Ends
+    requires { control ≤ 2 }
+    ensures { (result.control ≡ control) × (result.address ≡ control + 2 * n) × (result.word ≡ control + 2 * n + 2 * w) }
 {
-    let address = control + ranges::address_words(z);
+    let address = control + 2 * (n as usize);
     Ends {
         control,
         address,
-        word: address + word,
+        word: address + 2 * (w as usize),
     }
 }
 
 // Where control, address and data end among the nodes of an access of this kind. A read has no data.
-pub fn ends_of(kind: Kind, z: Sizes) -> Ends
-    ensures value { result ≡ ends_of kind z }
+pub fn ends_of(kind: Kind, n: u32, w: u32) -> Ends
+    ensures value { result ≡ ends_of kind n w }
     ensures rising { (result.control ≤ result.address) × (result.address ≤ result.word) }
-    ensures whole { result.word ≡ size_of kind z }
+    ensures whole { result.word ≡ size_of kind n w }
 {
     match kind {
-        Kind::Write => ends(2, z, ranges::data_words(z)),
-        Kind::Read => ends(2, z, 0),
-        Kind::Assert => ends(1, z, ranges::cell_words(z)),
-        Kind::Check => ends(1, z, ranges::cell_words(z)),
+        Kind::Write => ends(2, n, w),
+        Kind::Read => ends(2, n, 0),
+        Kind::Assert => ends(1, n, w),
+        Kind::Check => ends(1, n, w),
         Kind::Unknown => Ends {
             control: 0,
             address: 0,
@@ -66,10 +65,10 @@ pub fn ends_of(kind: Kind, z: Sizes) -> Ends
 }
 
 // How many nodes an access of this kind has.
-pub fn operands(kind: Kind, z: Sizes) -> usize
-    ensures { result ≡ size_of kind z }
+pub fn operands(kind: Kind, n: u32, w: u32) -> usize
+    ensures { result ≡ size_of kind n w }
 {
-    let e = ends_of(kind, z);
+    let e = ends_of(kind, n, w);
     e.word
 }
 

@@ -12,7 +12,6 @@ pub use format::Kind;
 pub use kinds::{ends_of, kind_of, operands};
 pub use reader::{Advance, Reader, access_at, begin, next};
 pub use sections::load_sections;
-use semantics::Sizes;
 
 // Where control, address and data end among the nodes of an access.
 #[derive(Clone, Copy)]
@@ -36,11 +35,12 @@ pub struct Progress {
     pub at: usize,
 }
 
-// What the sections hold: the sizes, the node count, the count of accesses and the byte where they begin.
+// What the sections hold: n, w, the node count, the count of accesses and the byte where they begin.
 #[derive(Clone, Copy)]
 pub enum Loaded {
     Ready {
-        sizes: Sizes,
+        n: u32,
+        w: u32,
         count: u32,
         accesses: u32,
         at: usize,

@@ -4,7 +4,6 @@ ghost use Rattle.format.specs.Accesses.{access_at, goes_on};
 ghost use Rattle.reading.specs.Contract.{answer_of, Finds};
 
 use super::{Access, Progress, accesses};
-use semantics::Sizes;
 
 // The lent bytes, and the byte with which the next access begins.
 #[derive(Drop)]
@@ -27,11 +26,11 @@ pub fn begin<'a>(bytes: &'a [u8], at: usize) -> Reader<'a>
     Reader { bytes, at }
 }
 
-// The next access, for a memory of these sizes.
-pub fn next<'a>(r: Reader<'a>, z: Sizes) -> Advance<'a>
-    ensures { (result.access ≡ answer_of r.entry.bytes.now r.entry.at (access_at r.entry.bytes.now r.entry.at z)) × (result.rest.bytes ≡ r.entry.bytes) × (result.rest.at ≡ goes_on r.entry.bytes.now r.entry.at z) }
+// The next access, for a memory of n address bits and w data bits.
+pub fn next<'a>(r: Reader<'a>, n: u32, w: u32) -> Advance<'a>
+    ensures { (result.access ≡ answer_of r.entry.bytes.now r.entry.at (access_at r.entry.bytes.now r.entry.at n w)) × (result.rest.bytes ≡ r.entry.bytes) × (result.rest.at ≡ goes_on r.entry.bytes.now r.entry.at n w) }
 {
-    let f = accesses::find_access(r.bytes, r.at, z);
+    let f = accesses::find_access(r.bytes, r.at, n, w);
     Advance {
         access: f.access,
         rest: Reader {
@@ -42,10 +41,10 @@ pub fn next<'a>(r: Reader<'a>, z: Sizes) -> Advance<'a>
 }
 
 // The access at a place, and the reader's own place after it. Over a plain slice: its callers hold no reader.
-pub fn access_at(bytes: &[u8], at: usize, z: Sizes) -> Progress
-    ensures { Finds result bytes.now at z }
+pub fn access_at(bytes: &[u8], at: usize, n: u32, w: u32) -> Progress
+    ensures { Finds result bytes.now at n w }
 {
-    let a = next(begin(bytes, at), z);
+    let a = next(begin(bytes, at), n, w);
     Progress {
         access: a.access,
         at: a.rest.at,

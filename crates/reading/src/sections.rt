@@ -4,28 +4,12 @@ ghost use Rattle.nodes.specs.Words.{with_node};
 ghost use Rattle.nodes.specs.Standard.{counted};
 ghost use Rattle.model.specs.Rows.{first_row};
 ghost use Rattle.format.specs.Bytes.{number_at};
-ghost use Rattle.format.specs.Sections.{with_nodes, sizes_in, sizes_end, early_rows, sections};
+ghost use Rattle.format.specs.Sections.{with_nodes, early_rows, sections};
 ghost use Rattle.reading.specs.Contract.{sections_of};
 
 use super::Loaded;
 use super::bytes::{number_at, wide};
 use semantics::Sizes;
-
-// The byte after n and w, and the byte after the count of nodes.
-const SIZES_END: usize = 2;
-
-const NODES_FROM: usize = SIZES_END + 2;
-
-// n and w.
-fn sizes_in(bytes: &[u8]) -> Sizes
-    requires { sizes_end ≤ length bytes.now }
-    ensures { result ≡ sizes_in bytes.now }
-{
-    Sizes {
-        n: wide(bytes[0]),
-        w: wide(bytes[1]),
-    }
-}
 
 // Stores the node at a place of the file: its variable, low and high child.
 fn store_from(bytes: &[u8], from: usize, node: u32, words: &mut [u32])
@@ -62,23 +46,27 @@ fn has_room(words: &[u32], k: u32) -> bool
 fn early_row(bytes: &[u8], words: &[u32]) -> u32
     ensures { result ≡ first_row (early_rows bytes.now words.now) }
 {
-    if bytes.len() < SIZES_END {
+    if bytes.len() < 2 {
         return 10;
     }
-    if !ranges::in_range(sizes_in(bytes)) {
+    let z = Sizes {
+        n: wide(bytes[0]),
+        w: wide(bytes[1]),
+    };
+    if !ranges::in_range(z) {
         return 1;
     }
-    if bytes.len() < NODES_FROM {
+    if bytes.len() < 4 {
         return 10;
     }
-    let k = number_at(bytes, SIZES_END);
-    if bytes.len() < NODES_FROM + 5 * (k as usize) {
+    let k = number_at(bytes, 2);
+    if bytes.len() < 4 + 5 * (k as usize) {
         return 10;
     }
     if has_room(words, k) { 0 } else { 2 }
 }
 
-// Reads the sizes, the nodes and the count of accesses, and stores the terminals and the nodes.
+// Reads n, w, the nodes and the count of accesses, and stores the terminals and the nodes.
 pub fn load_sections(bytes: &[u8], words: &mut [u32]) -> Loaded
     ensures { (words.new, sections_of result) ≡ sections bytes.now words.old }
 {
@@ -86,18 +74,19 @@ pub fn load_sections(bytes: &[u8], words: &mut [u32]) -> Loaded
     if row != 0 {
         return Loaded::Refused(row);
     }
-    let k = number_at(bytes, SIZES_END);
+    let k = number_at(bytes, 2);
     nodes::store_terminals(words);
-    store_nodes(bytes, NODES_FROM, k, words);
+    store_nodes(bytes, 4, k, words);
     if !nodes::is_standard(words, k + 2) {
         return Loaded::Refused(2);
     }
-    let end = NODES_FROM + 5 * (k as usize);
+    let end = 4 + 5 * (k as usize);
     if bytes.len() - end < 2 {
         return Loaded::Refused(10);
     }
     Loaded::Ready {
-        sizes: sizes_in(bytes),
+        n: wide(bytes[0]),
+        w: wide(bytes[1]),
         count: k + 2,
         accesses: number_at(bytes, end),
         at: end + 2,

@@ -4,4 +4,4 @@ use Rattle.addresses.proofs.narrow_bit.Goals as goal
 
 pub returns : goal.returns
 unfolding narrow_bit
-returns c = then_did _ c.index-x.ensures (then_did _ c.ite-t.ensures c.and.ensures)
+returns c = then_did _ c.variable-x.ensures (then_did _ c.ite-t.ensures c.and.ensures)

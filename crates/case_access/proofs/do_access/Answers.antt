@@ -6,18 +6,18 @@ use mathlib.Core.Path.{ap, ◌∙◌}
 use Rattle.case_access.proofs.do_access.Goals as goal
 
 pub do_write-requires : goal.do_write-requires
-do_write-requires c = (c.requires.0, c.requires.3 ∙ ap (λ k. size_of k c.args.c.memory.fields.sizes) c.in-Write.is)
+do_write-requires c = (c.requires.0, c.requires.3 ∙ ap (λ k. size_of k c.args.c.memory.fields.sizes.n c.args.c.memory.fields.sizes.w) c.in-Write.is)
 
 pub do_read-requires : goal.do_read-requires
-do_read-requires c = (c.requires.0, c.requires.1, c.requires.3 ∙ ap (λ k. size_of k c.args.c.memory.fields.sizes) c.in-Read.is)
+do_read-requires c = (c.requires.0, c.requires.1, c.requires.3 ∙ ap (λ k. size_of k c.args.c.memory.fields.sizes.n c.args.c.memory.fields.sizes.w) c.in-Read.is)
 
 pub do_assert-requires : goal.do_assert-requires
 unfolding ends_of fields_of
-do_assert-requires c = (c.requires.0, c.requires.3 ∙ ap (λ k. size_of k c.args.c.memory.fields.sizes) c.in-Assert.is)
+do_assert-requires c = (c.requires.0, c.requires.3 ∙ ap (λ k. size_of k c.args.c.memory.fields.sizes.n c.args.c.memory.fields.sizes.w) c.in-Assert.is)
 
 pub do_check-requires : goal.do_check-requires
 unfolding ends_of fields_of
-do_check-requires c = (c.requires.0, c.requires.3 ∙ ap (λ k. size_of k c.args.c.memory.fields.sizes) c.in-Check.is)
+do_check-requires c = (c.requires.0, c.requires.3 ∙ ap (λ k. size_of k c.args.c.memory.fields.sizes.n c.args.c.memory.fields.sizes.w) c.in-Check.is)
 
 pub returns-in-Write : goal.returns-in-Write
 unfolding call_of lead_of fields_of

@@ -36,4 +36,4 @@ shape_of-buf t c = omega (arith, c.put_byte-a.auto.buf)
 pub returns : goal.returns
 returns t c =
     node-steps c.requires.0 c.args.node c.if-node-lt2.false c.requires.1 c.top-v.ensures c.low-low.ensures c.high-high.ensures (out c.args.buf.now c.args.t)
-        c.put_byte-a.ensures c.put_decimal-b.ensures c.put_byte-c.ensures c.put_condition-d.ensures c.put_byte-e.ensures c.put_condition-f.ensures c.put_byte-2.ensures
+    c.put_byte-a.ensures c.put_decimal-b.ensures c.put_byte-c.ensures c.put_condition-d.ensures c.put_byte-e.ensures c.put_condition-f.ensures c.put_byte-2.ensures

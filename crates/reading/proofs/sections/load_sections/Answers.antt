@@ -32,4 +32,4 @@ pub overflow_add-result : goal.overflow_add-result
 overflow_add-result c = omega (arith, c.number_at-k.ensures.small)
 
 pub returns : goal.returns
-returns c = all_read c.args.bytes.now c.args.words.now (sym c.early_row-row.ensures ∙ c.if-row-ne0.false) c.number_at-k.ensures.value c.store_terminals.ensures c.store_nodes.ensures c.is_standard.ensures (ap not c.if-not-is_standard.false) c.if-bytes-end-lt2.false c.sizes_in.ensures c.number_at.ensures.value
+returns c = all_read c.args.bytes.now c.args.words.now (sym c.early_row-row.ensures ∙ c.if-row-ne0.false) c.number_at-k.ensures.value c.store_terminals.ensures c.store_nodes.ensures c.is_standard.ensures (ap not c.if-not-is_standard.false) c.if-bytes-end-lt2.false c.wide.ensures c.wide-2.ensures c.number_at.ensures.value
