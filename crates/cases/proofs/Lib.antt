@@ -3,6 +3,7 @@ pub mod LastLaws
 pub mod WayLaws
 pub mod CaseLaws
 pub mod AcceptedLaws
+pub mod StopLaws
 pub mod RefusedLaws
 pub mod PrintLaws
 pub mod LineLaws

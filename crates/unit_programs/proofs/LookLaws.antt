@@ -27,7 +27,8 @@ use Rattle.units.proofs.SumLaws.{sum_from-length}
 use Rattle.units.proofs.ExactLaws.{look-cell}
 use Rattle.unit_programs.specs.Add.{Add}
 use Rattle.unit_programs.specs.Units.{shaped, PartAddress, look_part, zero_pairs, LookUnit, ReadUnit}
-use Rattle.unit_programs.proofs.AddLaws.{zero-means, add-means}
+use Rattle.unit_programs.proofs.HalfLaws.{zero-means}
+use Rattle.unit_programs.proofs.SumLaws.{add-means}
 
 -- the address of a part means the part's
 pub part-means : {σ : ℕ → Bool} (o : Order) (r : Record) (unit j : ℕ) (a : List ℕ) (qs : List Pair) → length qs ≡ r.sizes.n → 1 ≤ r.sizes.n → (w : List ℕ) (s : Store) → Standard w s.count → Halves σ 8 (2 * r.sizes.n) (λ τ. at qs) w s a

@@ -15,16 +15,13 @@ use Rattle.conditions.specs.Assignment.{bit_at}
 use Rattle.conditions.proofs.Promises.{next_is, each_end, each_step, value_0, value_1, neither_decides}
 use Rattle.present.specs.Present.{BuildsNothing}
 use Rattle.present.proofs.PresentLaws.{builds-nothing}
-use Rattle.model.specs.Record.{Record, h_at, l_at}
-use Rattle.model.specs.Access.{Look, Read}
+use Rattle.model.specs.Record.{h_at, l_at}
 use Rattle.units.specs.Sum.{bits_of}
-use Rattle.units.specs.Parts.{Order, little, big, offset}
 use Rattle.unit_programs.specs.Add.{Adding, no_carry, mix_half, sum_bit, carry_bit, add_bit, Add}
-use Rattle.unit_programs.specs.Units.{PartAddress, look_part, zero_pairs, LookUnit, ReadUnit}
-use Rattle.unit_programs.specs.Claims.{Legal, Lent, AddingNothing, OneCell}
+use Rattle.unit_programs.specs.Claims.{Legal, AddingNothing}
 
 -- on from a step that built nothing
-then-pure : {A B : Type 0} (k : A → Build B) {x : Outcome A} {v : A} {w : List ℕ} {s : Store} → x ≡ pure v w s → next x k ≡ k v w s
+pub then-pure : {A B : Type 0} (k : A → Build B) {x : Outcome A} {v : A} {w : List ℕ} {s : Store} → x ≡ pure v w s → next x k ≡ k v w s
 then-pure k e = sym (next_is k (sym e) refl)
 
 cond_same : (b c : Bool) → c ≡ cond b c c
@@ -119,37 +116,3 @@ adding-nothing n a w s A =
     then-pure _ (ap (λ (k : ℕ). for_each (add_bit (bits_of n 0) a) 0 k no_carry w s) (sym z) ∙ bits w s A.standard A.free n a A.size A.legal c c 0 (omega (arith, A.some)) (omega arith))
     ∙ then-pure _ (last w s A.standard A.free n a A.size A.legal c (omega (arith, A.some)))
     ∙ ap (λ (l : List ℕ). pure l w s) (take_all (2 * suc c) a (omega (arith, A.some, A.size)))
-
--- a step after which nothing more is built or changed
-then_same : {A : Type 0} (x : Outcome A) (k : A → Build A) → ((v : A) (w : List ℕ) (s : Store) → k v w s ≡ pure v w s) → next x k ≡ x
-then_same x k e = sym (next_is k refl refl) ∙ e x.answer x.words x.store
-
-append_nil : (l : List ℕ) → l ++ [] ≡ l
-append_nil [] = refl
-append_nil (v ∷ l) = ap {B = List ℕ} (λ z. v ∷ z) (append_nil l)
-
-nothing_above : (w : ℕ) (l : List ℕ) → l ++ zero_pairs ((1 - 1) * w) ≡ l
-nothing_above w l = let e : (1 - 1) * w ≡ 0 = omega arith in ap (λ (k : ℕ). l ++ zero_pairs k) e ∙ append_nil l
-
-offset-none : (o : Order) → offset o 1 1 ≡ 0
-offset-none little = refl
-offset-none big = refl
-
-look_one : (o : Order) (r : Record) (l a : List ℕ) (w : List ℕ) (s : Store) → Lent r.sizes.n a w s → LookUnit 1 o r l 1 a w s ≡ Look r l a w s
-unfolding LookUnit look_part PartAddress AddingNothing
-look_one o r l a w s A =
-    let part : look_part o r l 1 a 0 [] w s ≡ Look r l a w s
-    = then-pure _ (rw (offset-none o) (adding-nothing r.sizes.n a w s A)) ∙ then_same (Look r l a w s) (λ looked. pure looked) (λ v w s. refl) in
-    then_same _ (λ word. pure (word ++ zero_pairs ((1 - 1) * r.sizes.w))) (λ v w s. ap (λ (z : List ℕ). pure z w s) (nothing_above r.sizes.w v))
-    ∙ each_step (look_part o r l 1 a) [] w s 1 0 (omega arith)
-    ∙ then_same _ _ (λ v w s. each_end (look_part o r l 1 a) v w s 1 0 refl)
-    ∙ part
-
-pub one_cell : OneCell
-unfolding ReadUnit Read
-one_cell = record {
-  look = look_one;
-  read = λ o r l held eh el a w s A.
-      let e : 1 * r.sizes.w ≡ r.sizes.w = omega arith in
-      rw (look_one o r l a w s A, e);
-}
