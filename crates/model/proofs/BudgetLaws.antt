@@ -27,7 +27,7 @@ use Rattle.model.proofs.IdleLaws.{not-idle_may}
 use Rattle.model.proofs.SomeLaws.{some-exactly}
 use Rattle.model.proofs.AgreeLaws.{Agrees, agrees_values, run_agrees}
 use Rattle.semantics.specs.Count.{adds_at, entries_after_all}
-use Rattle.semantics.proofs.CountLaws.{not-kept-adds}
+use Rattle.semantics.proofs.KeepsLaws.{not-kept-adds}
 use Rattle.model.proofs.CountLaws.{refused-number, new_as, count-exactly}
 
 -- the entries that a state's list takes

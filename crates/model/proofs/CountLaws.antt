@@ -15,7 +15,8 @@ use Rattle.semantics.specs.Published.{Entry, look, inside, keeps}
 use Rattle.semantics.specs.Array.{Event, writes, reads, asserts, checks, nothing}
 use Rattle.semantics.specs.Held.{entries_after}
 use Rattle.semantics.specs.Count.{adds_at, most_entries, accesses_by_hand}
-use Rattle.semantics.proofs.CountLaws.{kept-none, not-kept-adds, adds_as}
+use Rattle.semantics.proofs.CountLaws.{kept-none, adds_as}
+use Rattle.semantics.proofs.KeepsLaws.{not-kept-adds}
 use Rattle.model.specs.Count.{under_some, SomeExactly, adds_some, how_many, new_entries, entry_count_from, AddsExactly, EntryExactly, KeptExactly, CountExactly, of_variable8, CountedByHand}
 use Rattle.model.specs.Step.{State, write, read, assert, check, evaluate, variable, ite, conditions, Call, access, node_call, upkeep, is_kind, Answer, refused, entered, kept, done, is_refused, Result, Finish, closed, finish_access, finish_node, finish, step, run}
 use Rattle.model.specs.Claims.{argument, event, Fed, fed}

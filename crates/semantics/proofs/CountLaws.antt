@@ -1,28 +1,24 @@
--- The count under one assignment: an assert adds an entry exactly where its look does not keep it, and lists that say the same of each location are added to alike.
-use mathlib.Core.Path.{◌≡◌, refl, sym, ap, ◌∙◌, subst}
-use mathlib.Core.Bool.{Bool, true, false, ◌&&◌, true≢false, beq}
+-- The count under one assignment: an assert that its look keeps adds no entry, and lists that say the same of each location are added to alike.
+use mathlib.Core.Path.{◌≡◌, refl, ap}
+use mathlib.Core.Bool.{Bool, true, false, ◌&&◌, beq}
 use mathlib.Core.List.{List, [], ◌∷◌}
 use Prim.Native.Nat.{ℕ, zero, suc, ◌<◌, ◌≤◌}
 use native.Mathlib.Omega.{arith}
-use lib.Dec.{T}
 use lib.ListN.{length}
 use Rattle.semantics.specs.declared.Sizes.{Sizes}
 use Rattle.semantics.specs.Sizes.{cell_bits}
-use Rattle.semantics.specs.Pairs.{Pair, at, admit}
+use Rattle.semantics.specs.Pairs.{Pair, at}
 use Rattle.semantics.specs.Published.{Entry, look, inside, keeps}
 use Rattle.semantics.specs.Array.{Event, writes, reads, asserts, checks, nothing}
 use Rattle.semantics.specs.Count.{same_pair, differs, adds, adds_at, most_entries, AddedByHand}
-use Rattle.semantics.proofs.PairLaws.{and_left, and_right, and_both, not_or, T→eq, eq→T, beq_refl, beq_eq, inside_to, inside-from}
+use Rattle.semantics.proofs.PairLaws.{and_left, and_right, T→eq, eq→T, beq_refl, beq_eq, inside_to}
 use Rattle.semantics.proofs.KeptLaws.{SameCells, same-look, pair_same}
 
 both : (a b : Bool) → (a && b) ≡ true → (a ≡ true) × (b ≡ true)
 both a b e = (T→eq a (and_left a b (eq→T e)), T→eq b (and_right a b (eq→T e)))
 
-and_eq : {a b : Bool} → a ≡ true → b ≡ true → (a && b) ≡ true
-and_eq {a} {b} p q = T→eq (a && b) (and_both a b (eq→T p) (eq→T q))
-
 -- two words that differ in no bit are the same
-same_pair_lem : (p q : Pair) → same_pair p q ≡ true → p ≡ q
+pub same_pair_lem : (p q : Pair) → same_pair p q ≡ true → p ≡ q
 same_pair_lem p q e = let m = both (beq p.h q.h) (beq p.l q.l) e in λ i. record { h = beq_eq p.h q.h m.0 i; l = beq_eq p.l q.l m.1 i }
 
 pair_itself : (p : Pair) → same_pair p p ≡ true
@@ -32,31 +28,12 @@ differs_none : (w : ℕ) (d r : ℕ → Pair) → ((i : ℕ) → i < w → d i �
 differs_none zero d r same = refl
 differs_none (suc k) d r same = rw (same 0 (omega arith), pair_itself (r 0)) (differs_none k (λ i. d (suc i)) (λ i. r (suc i)) (λ i l. same (suc i) (omega arith)))
 
-same_word : (w : ℕ) (d r : ℕ → Pair) → differs w d r ≡ false → (i : ℕ) → i < w → d i ≡ r i
-same_word zero d r e i l = absurd (omega arith)
-same_word (suc k) d r e zero l = same_pair_lem (d 0) (r 0) (not_or (same_pair (d 0) (r 0)) _ e).0
-same_word (suc k) d r e (suc i) l = same_word k (λ i. d (suc i)) (λ i. r (suc i)) (not_or (same_pair (d 0) (r 0)) _ e).1 i (omega arith)
-
--- an assert that its look keeps adds no entry, and one that adds none is kept
+-- an assert that its look keeps adds no entry
 pub kept-none : (z : Sizes) (es : List Entry) (b : Bool) (a d : List Pair) → keeps z es b a d ≡ true → adds_at z es (asserts b a d) 0 ≡ false
 kept-none z es false a d e = refl
 kept-none z es true a d e =
     let m = both (inside (cell_bits z) (at d) (look z.n es a)) (inside (cell_bits z) (look z.n es a) (at d)) e in
     differs_none (cell_bits z) (at d) (look z.n es a) (λ i l. pair_same (at d i) (look z.n es a i) (inside_to (cell_bits z) (at d) (look z.n es a) (eq→T m.0) i l) (inside_to (cell_bits z) (look z.n es a) (at d) (eq→T m.1) i l))
-
-none_kept : (z : Sizes) (es : List Entry) (b : Bool) (a d : List Pair) → adds_at z es (asserts b a d) 0 ≡ false → keeps z es b a d ≡ true
-none_kept z es false a d e = refl
-none_kept z es true a d e =
-    let same = same_word (cell_bits z) (at d) (look z.n es a) e in
-    and_eq (T→eq (inside (cell_bits z) (at d) (look z.n es a)) (inside-from (cell_bits z) (at d) (look z.n es a) (λ i l b t. subst (λ (p : Pair). T (admit p b)) (same i l) t)))
-    (T→eq (inside (cell_bits z) (look z.n es a) (at d)) (inside-from (cell_bits z) (look z.n es a) (at d) (λ i l b t. subst (λ (p : Pair). T (admit p b)) (sym (same i l)) t)))
-
-pub not-kept-adds : (z : Sizes) (es : List Entry) (b : Bool) (a d : List Pair) → keeps z es b a d ≡ false → adds_at z es (asserts b a d) 0 ≡ true
-not-kept-adds z es b a d k = go (adds_at z es (asserts b a d) 0) refl
-  where
-    go : (t : Bool) → adds_at z es (asserts b a d) 0 ≡ t → t ≡ true
-    go true e = refl
-    go false e = absurd (true≢false (sym (none_kept z es b a d e) ∙ k))
 
 -- lists that say the same of each location ask the same
 differs_as : (w : ℕ) (d r s : ℕ → Pair) → ((i : ℕ) → i < w → r i ≡ s i) → differs w d r ≡ differs w d s

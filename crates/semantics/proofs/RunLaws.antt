@@ -16,7 +16,8 @@ use Rattle.semantics.specs.Array.{Event, writes, reads, asserts, checks, nothing
 use Rattle.semantics.specs.Held.{Held, holds_nothing, held_after, held_after_all, NowMay, RunMay, Accepted, AllAccepted}
 use Rattle.semantics.specs.Claims.{Told, AdmitsRuns, OnlyRuns, ExactlyAsRuns, EventsAsRuns}
 use Rattle.semantics.proofs.PairLaws.{and_left, and_right, and_both, admits_at, admits_all, inside_to, inside-from}
-use Rattle.semantics.proofs.ExactLaws.{Admitted, Reached, HeldAdmits, HeldReaches, admitted_along, reached_along, idle-admitted, idle_reached, start-admitted, start_reached, look-within, look_reach, answer-within, answer_reach, some_choice, step-admitted, step_reached}
+use Rattle.semantics.proofs.ExactLaws.{Admitted, Reached, HeldAdmits, HeldReaches, admitted_along, reached_along, idle-admitted, idle_reached, start-admitted, start_reached, look-within, look_reach, answer-within, answer_reach, some_choice}
+use Rattle.semantics.proofs.StepLaws.{step-admitted, step_reached}
 
 -- any memory can go on through accepted calls
 some_choices : (z : Sizes) (es : List Event) → AllAccepted z es → Choices es

@@ -18,7 +18,8 @@ use Rattle.formula_calls.specs.Chain.{spelled_out, AnySpelledOut}
 use Rattle.formula_calls.proofs.ChainLaws.{any-spelled_out}
 use Rattle.sharper.specs.Sharper.{SharperList, Matched}
 use Rattle.sharper.specs.Narrower.{AccessLists}
-use Rattle.sharper.proofs.RunLaws.{access-lists, nothing_narrower}
+use Rattle.sharper.proofs.RunLaws.{nothing_narrower}
+use Rattle.sharper.proofs.ListLaws.{access-lists}
 use Rattle.sharpening.specs.Claims.{AnswersNarrower, Sharpening, ChainSharpening, FormulaChainSharpening}
 
 -- two lists that tell what their published runs do

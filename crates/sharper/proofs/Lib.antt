@@ -1,4 +1,5 @@
 pub mod PairLaws
 pub mod PublishedLaws
 pub mod RunLaws
+pub mod ListLaws
 pub mod ExampleLaws

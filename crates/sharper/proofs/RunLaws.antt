@@ -1,18 +1,18 @@
--- One access and its sharper one, and lists of them, over the published run.
+-- One access and its sharper one, over the published run.
 use mathlib.Core.Path.{sym, subst}
 use mathlib.Core.Bool.{Bool, true, false, cond}
 use mathlib.Core.List.{List, [], ◌∷◌, ◌++◌}
-use Prim.Native.Nat.{ℕ, zero, suc, ◌<◌}
+use Prim.Native.Nat.{ℕ, ◌<◌}
 use lib.Dec.{T, eqb}
 use Rattle.semantics.specs.declared.Sizes.{Sizes}
 use Rattle.semantics.specs.Sizes.{cell_bits, data_bits}
 use Rattle.semantics.specs.Pairs.{Pair, X, admit}
 use Rattle.semantics.specs.Published.{Entry, entry, cell, answer, check_holds, control}
 use Rattle.semantics.specs.Array.{Event, writes, reads, asserts, checks, nothing}
-use Rattle.semantics.specs.Held.{Held, holds_nothing, held_after, RunMay, Accepted}
+use Rattle.semantics.specs.Held.{Held, holds_nothing, Accepted}
 use Rattle.semantics.proofs.PairLaws.{and_left, and_right, and_both, scan_snoc}
-use Rattle.sharper.specs.Sharper.{Sharper, alike, AllSharper, SharperAccess, write, read, assert, check, SharperList, end, both, first, second, Matched}
-use Rattle.sharper.specs.Narrower.{Narrower, NarrowerCells, NarrowerHeld, AccessNarrower, OneAccess, ListNarrower, AccessLists}
+use Rattle.sharper.specs.Sharper.{Sharper, alike, AllSharper, SharperAccess, write, read, assert, check}
+use Rattle.sharper.specs.Narrower.{Narrower, NarrowerCells, NarrowerHeld, AccessNarrower}
 use Rattle.sharper.proofs.PublishedLaws.{entry_narrower, answer_narrower, check_narrower}
 
 -- a sharper entry after sharper ones
@@ -79,44 +79,6 @@ module _ (z : Sizes) (s t : Held) (H : NarrowerHeld z s t) where
   access_narrower (checks b a d) (asserts b' a' d') x9 q q' = elim x9 [ ]
   access_narrower (checks b a d) nothing x10 q q' = elim x10 [ ]
   access_narrower nothing f x7 q q' = elim x7 [ ]
-
-pub one-access : OneAccess
-unfolding OneAccess
-one-access z s t e f H m q q' = access_narrower z s t H e f m q q'
-
--- a list, of its first access and the rest, and of what is no access and the rest
-module _ (z : Sizes) (s t : Held) (es fs : List Event) (M : SharperList es fs) where
-  both_narrower : (e f : Event) (m : SharperAccess e f) → AccessNarrower z s t e f → ListNarrower z (held_after z s e) (held_after z t f) es fs M → ListNarrower z s t (e ∷ es) (f ∷ fs) (both m M)
-  both_narrower e f m A R = record { after = R.after; bits = bits }
-    where
-      bits : (j k : ℕ) → Matched (both m M) j k → (i : ℕ) → i < data_bits z → (b : Bool) → RunMay z t (f ∷ fs) k i b → RunMay z s (e ∷ es) j i b
-      bits zero zero p i h b y = A.bits i h b y
-      bits zero (suc k) p i h b y = absurd p
-      bits (suc j) zero p i h b y = absurd p
-      bits (suc j) (suc k) p i h b y = R.bits j k p i h b y
-
-  first_narrower : ListNarrower z s t es fs M → ListNarrower z s t (nothing ∷ es) fs (first M)
-  first_narrower R = record { after = R.after; bits = bits }
-    where
-      bits : (j k : ℕ) → Matched (first M) j k → (i : ℕ) → i < data_bits z → (b : Bool) → RunMay z t fs k i b → RunMay z s (nothing ∷ es) j i b
-      bits zero k p i h b y = absurd p
-      bits (suc j) k p i h b y = R.bits j k p i h b y
-
-  second_narrower : ListNarrower z s t es fs M → ListNarrower z s t es (nothing ∷ fs) (second M)
-  second_narrower R = record { after = R.after; bits = bits }
-    where
-      bits : (j k : ℕ) → Matched (second M) j k → (i : ℕ) → i < data_bits z → (b : Bool) → RunMay z t (nothing ∷ fs) k i b → RunMay z s es j i b
-      bits j zero p i h b y = absurd p
-      bits j (suc k) p i h b y = R.bits j k p i h b y
-
-pub access-lists : AccessLists
-unfolding AccessLists
-access-lists z s t [] [] end H q q' = record { after = H; bits = λ j k m i h b y. absurd m }
-access-lists z s t (e ∷ es) (f ∷ fs) (both m M) H q q' =
-    let A = access_narrower z s t H e f m q.0 q'.0 in
-    both_narrower z s t es fs M e f m A (access-lists z (held_after z s e) (held_after z t f) es fs M A.after q.1 q'.1)
-access-lists z s t (nothing ∷ es) fs (first M) H q q' = first_narrower z s t es fs M (access-lists z s t es fs M H q.1 q')
-access-lists z s t es (nothing ∷ fs) (second M) H q q' = second_narrower z s t es fs M (access-lists z s t es fs M H q q'.1)
 
 -- two runs begin alike
 pub nothing_narrower : (z : Sizes) → NarrowerHeld z holds_nothing holds_nothing

@@ -8,22 +8,22 @@ use Prim.Native.Nat.{ℕ, zero, suc, ◌+◌, ◌*◌, ◌/◌, ◌%◌, ◌^◌
 use native.Mathlib.Nat.{le_of_suc-le-suc, not-suc-le-zero, mod-lt, add-zero, suc-mul, mul-le-mul_right, mul-add-div_right, mul-add-mod_self_right, div-eq_of_lt, mod-eq_of_lt}
 use native.Mathlib.Omega.{arith}
 use borrow.Author.Tests.{ltb-true}
-use lib.Dec.{T, eqb, leb, ltb, leb→le}
+use lib.Dec.{T, leb, ltb, leb→le}
 use lib.ListN.{length, replicate, length-replicate, get_or-replicate}
 use Rattle.semantics.specs.declared.Sizes.{Sizes}
 use Rattle.semantics.specs.Sizes.{cell_bits}
 use Rattle.semantics.specs.Pairs.{Pair, X, only, legal, admit, admits, legals, unique, at, bit}
-use Rattle.semantics.specs.Published.{Entry, entry, over, scan, cell, look, holding}
+use Rattle.semantics.specs.Published.{Entry, entry, over, scan, cell, look}
 use Rattle.semantics.specs.Array.{Memory, same, put, Bit, Bits}
 use Rattle.semantics.specs.Array as Cell
 use Rattle.semantics.specs.Held.{Held}
 use Rattle.semantics.proofs.PairLaws.{and_left, and_right, either, T→eq, same_eq, admits-length, choose, chooses, choose_at, anything-word, look_to, look-from, scan-append, over_is}
-use Rattle.semantics.proofs.ExactLaws.{Admits, Reaches, X-admits, length-anything, union_left, union_right, union_either, where_choice}
+use Rattle.semantics.proofs.ExactLaws.{Admits, Reaches, X-admits, length-anything, where_choice}
 use Rattle.semantics.proofs.ExactLaws as S
 use Rattle.units.specs.Sum.{bits_of}
-use Rattle.units.specs.Parts.{Order, Shape, sizes, wide, offset, part_of, part_pairs, part_entry, parts_from, unit_entries, look_unit, answer_unit}
-use Rattle.units.specs.Array.{Event, writes, reads, asserts, checks, nothing, Words, Choice, stores_from, stores, word_of, find_unit, finds, returns, memory_after, Start, Settled, NoX}
-use Rattle.units.specs.Held.{held_after, Parts, Accepted}
+use Rattle.units.specs.Parts.{Order, Shape, sizes, wide, offset, part_of, part_pairs, part_entry, parts_from, unit_entries, look_unit}
+use Rattle.units.specs.Array.{Event, writes, reads, asserts, checks, nothing, Words, Choice, stores_from, stores, word_of, find_unit, finds, memory_after, Start, Settled}
+use Rattle.units.specs.Held.{Parts, Accepted}
 use Rattle.units.proofs.SumLaws.{zero_bit, sum_from-length, sum-unique}
 use Rattle.units.proofs.PartLaws.{part_sound, part-known, parts_distinct, shared-marks, pairs_one, unit_of_one, part_of_one}
 
@@ -132,7 +132,7 @@ finds-cell g unit x m j c l h =
     let e = in_cells j g.w c h in
     word_of_bit (wide g) (find_unit g unit x m) (j * g.w + c) (below-wide g.m j g.w c l h) ∙ (rw (e.0, e.1))
 
--- What a read of a unit returns: its parts where it is enabled, its port's word where it is not
+-- What a look at a unit finds: its parts
 -- where a unit has one part, its first is the address itself
 first-pairs : (o : Order) (unit k : ℕ) (a : List Pair) → T (legals a) → unit ≡ 1 → k ≡ 0 → part_pairs o unit a (suc k) ≡ a
 first-pairs o unit k a la e f = rw (e, f) (pairs_one o a la)
@@ -142,7 +142,7 @@ first-place o unit k x e f = rw (e, f) (part_of_one o x)
 
 module _ (g : Shape) (es : List Entry) (ports : ℕ → ℕ → Pair) (I : Type 0) (mem : I → Memory) (unit : ℕ) (a : List Pair) where
   -- at any address: each part lies where its own address admits
-  look-within : Admitted g (cell es) ports I mem → length a ≡ g.n → (r : I) (x : Bits a) (i : ℕ) → i < wide g → T (admit (look_unit g es unit a i) (bit (finds g unit x.0 (mem r)) i))
+  pub look-within : Admitted g (cell es) ports I mem → length a ≡ g.n → (r : I) (x : Bits a) (i : ℕ) → i < wide g → T (admit (look_unit g es unit a i) (bit (finds g unit x.0 (mem r)) i))
   look-within A na r x i h = subst (λ (b : Bool). T (admit (look_unit g es unit a i) b)) (sym (word_of_bit (wide g) (find_unit g unit x.0 (mem r)) i h)) (go (ltb (i / g.w) unit))
     where
       j : ℕ
@@ -162,7 +162,7 @@ module _ (g : Shape) (es : List Entry) (ports : ℕ → ℕ → Pair) (I : Type 
       go true = look-from g.n es p (sum_from-length (only false) (bits_of (length a) (offset g.order unit j)) a ∙ na) (z, part_sound g.order unit a x.0 x.1 j) c (bit ((mem r).cells z) c)
           ((A.cells z).within r c (in_cell g.m g.w i h))
 
-  look_reach : Reached g (cell es) ports I mem → T (legals a) → Settled unit a → (i : ℕ) → i < wide g → (b : Bool) → T (admit (look_unit g es unit a i) b)
+  pub look_reach : Reached g (cell es) ports I mem → T (legals a) → Settled unit a → (i : ℕ) → i < wide g → (b : Bool) → T (admit (look_unit g es unit a i) b)
       → (r : I) × (x : Bits a) × (bit (finds g unit x.0 (mem r)) i ≡ b)
   look_reach R la s i h b t =
       let q = go (ltb (i / g.w) unit) refl t in
@@ -207,71 +207,6 @@ module _ (g : Shape) (es : List Entry) (ports : ℕ → ℕ → Pair) (I : Type 
           let l : unit ≤ 1 = leb→le unit 1 v in
           one (omega arith) (omega arith) t)
           (λ v. place v t)
-
-  module _ (p : ℕ) (e : Pair) where
-    abbrev got : I × Choice (reads p unit e a) → List Bool
-    got r = returns g p unit r.1.0.0 r.1.1.0 (mem r.0)
-
-    pub answer-within : Admitted g (cell es) ports I mem → length a ≡ g.n → Admits (wide g) (answer_unit g es (ports p) unit e a) (I × Choice (reads p unit e a)) got
-    answer-within A na = record { sized = λ r. sized r.0 r.1.0.0 r.1.1.0; within = λ r i h. go r.0 r.1.1 i h e.h e.l r.1.0.0 r.1.0.1 }
-      where
-        sized : (r : I) (on : Bool) (x : List Bool) → length (returns g p unit on x (mem r)) ≡ wide g
-        sized r true x = word_of-length (wide g) (find_unit g unit x (mem r))
-        sized r false x = (A.ports p).sized r
-
-        go : (r : I) (x : Bits a) (i : ℕ) → i < wide g → (eh el on : Bool) → T (admit (record { h = eh; l = el }) on) →
-            T (admit (holding (record { h = eh; l = el }) (look_unit g es unit a i) (ports p i)) (bit (returns g p unit on x.0 (mem r)) i))
-        go r x i h true false true t = look-within A na r x i h
-        go r x i h true false false t = absurd t
-        go r x i h true true true t = union_left (look_unit g es unit a i) (ports p i) (bit (finds g unit x.0 (mem r)) i) (look-within A na r x i h)
-        go r x i h true true false t = union_right (look_unit g es unit a i) (ports p i) (bit ((mem r).ports p) i) ((A.ports p).within r i h)
-        go r x i h false el true t = absurd t
-        go r x i h false el false t = (A.ports p).within r i h
-
-    pub answer_reach : Reached g (cell es) ports I mem → T (legal e) → T (legals a) → Settled unit a → Reaches (wide g) (answer_unit g es (ports p) unit e a) (I × Choice (reads p unit e a)) got
-    answer_reach R le la s = record { reach = λ i h b t. go i h b e.h refl e.l refl le t }
-      where
-        enabled : (i : ℕ) → i < wide g → (b : Bool) → T e.h → T (admit (look_unit g es unit a i) b) → (r : I × Choice (reads p unit e a)) × (bit (got r) i ≡ b)
-        enabled i h b on t = let q = look_reach R la s i h b t in ((q.0, ((true, on), q.1)), q.2)
-
-        disabled : (i : ℕ) → i < wide g → (b : Bool) → T e.l → T (admit (ports p i) b) → (r : I × Choice (reads p unit e a)) × (bit (got r) i ≡ b)
-        disabled i h b off t = let q = (R.ports p).reach i h b t in ((q.0, ((false, off), chooses a la)), q.1)
-
-        go : (i : ℕ) → i < wide g → (b : Bool) → (eh : Bool) → e.h ≡ eh → (el : Bool) → e.l ≡ el → T (eh || el) →
-            T (admit (holding (record { h = eh; l = el }) (look_unit g es unit a i) (ports p i)) b) → (r : I × Choice (reads p unit e a)) × (bit (got r) i ≡ b)
-        go i h b true y false z l t = enabled i h b (subst T (sym y) tt) t
-        go i h b true y true z l t = union_either (look_unit g es unit a i) (ports p i) b t (enabled i h b (subst T (sym y) tt)) (disabled i h b (subst T (sym z) tt))
-        go i h b false y true z l t = disabled i h b (subst T (sym z) tt) t
-        go i h b false y false z l t = absurd l
-
-    -- and its port holds it
-    abbrev held : ℕ → ℕ → Pair
-    held q = cond (eqb q p) (answer_unit g es (ports p) unit e a) (ports q)
-
-    read-admitted : Admitted g (cell es) ports I mem → length a ≡ g.n → Admitted g (cell es) held (I × Choice (reads p unit e a)) (λ r. memory_after g (reads p unit e a) r.1 (mem r.0))
-    read-admitted A na = record {
-      cells = λ x. record { sized = λ r. (A.cells x).sized r.0; within = λ r i h. (A.cells x).within r.0 i h };
-      ports = λ q. go q (eqb q p);
-    }
-      where
-        go : (q : ℕ) (t : Bool) → Admits (wide g) (cond t (answer_unit g es (ports p) unit e a) (ports q)) (I × Choice (reads p unit e a)) (λ r. cond t (got r) ((mem r.0).ports q))
-        go q true = answer-within A na
-        go q false = record { sized = λ r. (A.ports q).sized r.0; within = λ r i h. (A.ports q).within r.0 i h }
-
-    read_reached : Reached g (cell es) ports I mem → T (legal e) → T (legals a) → Settled unit a
-        → Reached g (cell es) held (I × Choice (reads p unit e a)) (λ r. memory_after g (reads p unit e a) r.1 (mem r.0))
-    read_reached R le la s = record {
-      some = (R.some, k);
-      cells = λ x. record { reach = λ i h b t. let r = (R.cells x).reach i h b t in ((r.0, k), r.1) };
-      ports = λ q. go q (eqb q p);
-    }
-      where
-        k : Choice (reads p unit e a)
-        k = (choose e le, chooses a la)
-
-        go : (q : ℕ) (t : Bool) → Reaches (wide g) (cond t (answer_unit g es (ports p) unit e a) (ports q)) (I × Choice (reads p unit e a)) (λ r. cond t (got r) ((mem r.0).ports q))
-        go q true = answer_reach R le la s
-        go q false = record { reach = λ i h b t. let r = (R.ports q).reach i h b t in ((r.0, k), r.1) }
 
 -- A write of a unit, at any address: each part is the write of one cell, where the part lies
 cond_same : (on : Bool) (m : Memory) → cond on m m ≡ m
@@ -349,7 +284,7 @@ module _ (g : Shape) (es : List Entry) (ports : ℕ → ℕ → Pair) (I : Type 
   some-write : Choice (writes c a ds)
   some-write = (choose c lc, chooses a la, some_words g.w ds ld)
 
-  write-admitted : Admitted g (cell es) ports I mem → Admitted g (cell (es ++ unit_entries g.order c a ds)) ports (I × Choice (writes c a ds)) after
+  pub write-admitted : Admitted g (cell es) ports I mem → Admitted g (cell (es ++ unit_entries g.order c a ds)) ports (I × Choice (writes c a ds)) after
   write-admitted A = record {
     cells = λ x. admits_along g.w (cell (es ++ unit_entries g.order c a ds) x) (I × Choice (writes c a ds)) (I × Choice (writes c a ds)) (λ r. (wrote (sizes g) (λ p i. X) g.order (length ds) c lc a la 1 ds r.1 (bare g.w (mem r.0))).cells x) (λ r. (after r).cells x) (λ r. r)
         (λ r. ap (λ (m : Memory). m.cells x) (wrote_bare g.w g.order (length ds) r.1.0.0 r.1.1.0 1 ds r.1.2 (mem r.0)))
@@ -503,7 +438,7 @@ module _ (g : Shape) (es : List Entry) (ports : ℕ → ℕ → Pair) (I : Type 
           ((q.0.0, (k.0, k.1, (k.2, tt))), ap (λ (y : List Bool). bit ((cond k.0.0 (put (mem q.0.0) y k.2.0) (mem q.0.0)).cells x) i) (part_of_one g.order k.1.0) ∙ q.1)
 
   -- so a unit write keeps the half where its address is known or it has one part
-  write_reached : (ds : List (List Pair)) → Parts g.w ds → 1 ≤ length ds → length ds ≤ 2 ^ length a → Settled (length ds) a →
+  pub write_reached : (ds : List (List Pair)) → Parts g.w ds → 1 ≤ length ds → length ds ≤ 2 ^ length a → Settled (length ds) a →
       Reached g (cell (es ++ unit_entries g.order c a ds)) ports (I × Choice (writes c a ds)) (λ r. memory_after g (writes c a ds) r.1 (mem r.0))
   write_reached [] ld l fits s = absurd (omega arith)
   write_reached (d ∷ []) ld l fits s = one_reached d ld
@@ -538,45 +473,3 @@ HeldReaches g s I mem = Reached g (cell s.entries) s.ports I mem
 -- and of their cells, by the laws of one cell
 abbrev pub with-ports : Held → Pair → Held
 with-ports s p = record { entries = s.entries; ports = λ q i. p; condition = s.condition }
-
-module _ (g : Shape) (s : Held) (I : Type 0) (mem : I → Memory) where
-  -- an assert
-  assert-admitted : HeldAdmits g s I mem → (b : Bool) (a d : List Pair) → Accepted g (asserts b a d) → HeldAdmits g (held_after g s (asserts b a d)) (I × Choice (asserts b a d)) (λ r. memory_after g (asserts b a d) r.1 (mem r.0))
-  assert-admitted A true a d q = record {
-    cells = λ x. (S.step-admitted (sizes g) (with-ports s X) I (λ r. bare g.w (mem r)) (cells-admitted g (cell s.entries) s.ports I mem A) (Cell.asserts true a d) q).cells x;
-    ports = λ p. (idle-admitted g (cell s.entries) s.ports I (Choice (asserts true a d)) mem A).ports p;
-  }
-  assert-admitted A false a d q = record {
-    cells = λ x. (S.step-admitted (sizes g) (with-ports s X) I (λ r. bare g.w (mem r)) (cells-admitted g (cell s.entries) s.ports I mem A) (Cell.asserts false a d) q).cells x;
-    ports = λ p. (idle-admitted g (cell s.entries) s.ports I (Choice (asserts false a d)) mem A).ports p;
-  }
-
-  assert_reached : HeldReaches g s I mem → (b : Bool) (a d : List Pair) → Accepted g (asserts b a d) → HeldReaches g (held_after g s (asserts b a d)) (I × Choice (asserts b a d)) (λ r. memory_after g (asserts b a d) r.1 (mem r.0))
-  assert_reached R true a d q = record {
-    some = (R.some, some_choice g (asserts true a d) q);
-    cells = λ x. (S.step_reached (sizes g) (with-ports s none) I mem (cells_reached g (cell s.entries) s.ports I mem R) (Cell.asserts true a d) q).cells x;
-    ports = λ p. (idle_reached g (cell s.entries) s.ports I (Choice (asserts true a d)) mem (some_choice g (asserts true a d) q) R).ports p;
-  }
-  assert_reached R false a d q = record {
-    some = (R.some, some_choice g (asserts false a d) q);
-    cells = λ x. (S.step_reached (sizes g) (with-ports s none) I mem (cells_reached g (cell s.entries) s.ports I mem R) (Cell.asserts false a d) q).cells x;
-    ports = λ p. (idle_reached g (cell s.entries) s.ports I (Choice (asserts false a d)) mem (some_choice g (asserts false a d) q) R).ports p;
-  }
-
-  -- at every call, whatever its address
-  pub step-admitted : HeldAdmits g s I mem → (e : Event) → Accepted g e → HeldAdmits g (held_after g s e) (I × Choice e) (λ r. memory_after g e r.1 (mem r.0))
-  step-admitted A (writes c a ds) q = write-admitted g s.entries s.ports I mem c a ds q.0 q.1.0 q.2 A
-  step-admitted A (reads p u e a) q = read-admitted g s.entries s.ports I mem u a p e A q.1.1
-  step-admitted A (asserts b a d) q = assert-admitted A b a d q
-  step-admitted A (checks b a d) q = idle-admitted g (cell s.entries) s.ports I (Choice (checks b a d)) mem A
-  step-admitted A nothing q = idle-admitted g (cell s.entries) s.ports I (Unit {0}) mem A
-
-  -- and where it is no unit above 1 with an X in its address
-  pub step_reached : g.m ≤ 2 ^ g.n → HeldReaches g s I mem → (e : Event) → Accepted g e → NoX e → HeldReaches g (held_after g s e) (I × Choice e) (λ r. memory_after g e r.1 (mem r.0))
-  step_reached fits R (writes c a ds) q x =
-      let l : length ds ≤ 2 ^ length a = rw q.1.1 (omega (arith, q.3.1)) in
-      write_reached g s.entries s.ports I mem c a q.0 q.1.0 R ds q.2 q.3.0 l x
-  step_reached fits R (reads p u e a) q x = read_reached g s.entries s.ports I mem u a p e R q.0 q.1.0 x
-  step_reached fits R (asserts b a d) q x = assert_reached R b a d q
-  step_reached fits R (checks b a d) q x = idle_reached g (cell s.entries) s.ports I (Choice (checks b a d)) mem (some_choice g (checks b a d) q) R
-  step_reached fits R nothing q x = idle_reached g (cell s.entries) s.ports I (Unit {0}) mem tt R

@@ -18,7 +18,8 @@ use Rattle.units.specs.Parts.{Shape, sizes, wide, answer_unit}
 use Rattle.units.specs.Array.{Event, writes, reads, asserts, checks, nothing, Choice, Choices, memory_after, observes, observes_from, last_from, Start, Run, Settled, NoX, NoUnitX}
 use Rattle.units.specs.Held.{held_after, held_after_all, NowMay, RunMay, Accepted, AllAccepted}
 use Rattle.units.specs.Claims.{AdmitsRuns, OnlyRuns, AsRuns, published, UnitsAsRuns, IsOne, AllOne, OnesExactly}
-use Rattle.units.proofs.ExactLaws.{HeldAdmits, HeldReaches, admitted_along, reached_along, bare, none, cells-admitted, cells_reached, with-ports, idle-admitted, idle_reached, start-admitted, start_reached, answer-within, answer_reach, some_choice, step-admitted, step_reached}
+use Rattle.units.proofs.ExactLaws.{HeldAdmits, HeldReaches, admitted_along, reached_along, bare, none, cells-admitted, cells_reached, with-ports, idle-admitted, idle_reached, start-admitted, start_reached, some_choice}
+use Rattle.units.proofs.StepLaws.{answer-within, answer_reach, step-admitted, step_reached}
 
 -- any memory can go on through accepted calls
 some_choices : (g : Shape) (es : List Event) → AllAccepted g es → Choices es
