@@ -28,7 +28,8 @@ use Rattle.model.proofs.SomeLaws.{some-exactly}
 use Rattle.model.proofs.AgreeLaws.{Agrees, agrees_values, run_agrees}
 use Rattle.semantics.specs.Count.{adds_at, entries_after_all}
 use Rattle.semantics.proofs.CountLaws.{not-kept-adds}
-use Rattle.model.proofs.CountLaws.{refused-number, new_as, count-exactly}
+use Rattle.model.proofs.CountLaws.{refused-number, new_as}
+use Rattle.model.proofs.CountFresh.{count-exactly}
 
 -- the entries that a state's list takes
 abbrev takes : State → ℕ

@@ -28,7 +28,8 @@ use Rattle.model.specs.Table.{MemoryFacts, ReadFacts}
 use Rattle.semantics.proofs.PairLaws.{T→eq, eq→T}
 use Rattle.model.proofs.MeansLaws.{Means, up, near_self}
 use Rattle.model.proofs.AccessLaws.{AssertBuiltMean}
-use Rattle.model.proofs.TerminalLaws.{somewhere_false, idle_off}
+use Rattle.model.proofs.TerminalLaws.{somewhere_false}
+use Rattle.model.proofs.TerminalIdle.{idle_off}
 use Rattle.model.proofs.FinishLaws.{of-write, of-assert}
 use Rattle.model.proofs.FormulaLaws.{StandListed, formula-builds, are-listed}
 use Rattle.model.proofs.FactLaws.{write-facts, read-facts, check-facts, assert-facts, variable-facts, ite-facts, formula-facts}

@@ -4,6 +4,7 @@ pub mod AccessLaws
 pub mod ListLaws
 pub mod PortLaws
 pub mod TerminalLaws
+pub mod TerminalIdle
 pub mod FactLaws
 pub mod RowLaws
 pub mod FinishLaws
@@ -18,8 +19,10 @@ pub mod FrameLaws
 pub mod Demand3
 pub mod IdleLaws
 pub mod SomeLaws
+pub mod SomeUses
 pub mod AgreeLaws
 pub mod CountLaws
+pub mod CountFresh
 pub mod BudgetLaws
 pub mod ChainLaws
 pub mod RulingLaws

@@ -37,7 +37,7 @@ use Rattle.model.proofs.HalfLaws.{half_even, half_odd}
 use Rattle.model.proofs.AccessLaws.{Halves, EntryMeans, no_entry, EntriesMean, up_halves, up-entries, MarksMean, write-means, Word, read-means, check-means, AssertBuiltMean, assert-means}
 use Rattle.model.proofs.PortLaws.{held_at, replaced-length, replaced_in, replaced_other, half_at}
 use Rattle.model.proofs.ListLaws.{new-address, new_data, entry_old, entry_new}
-use Rattle.model.proofs.TerminalLaws.{idle_off}
+use Rattle.model.proofs.TerminalIdle.{idle_off}
 use Rattle.model.proofs.FormulaLaws.{formula-builds}
 use Rattle.model.proofs.FinishLaws.{of-program, of-write, of-assert}
 use Rattle.model.proofs.FactLaws.{space-room, write-facts, read-facts, check-facts, assert-facts, variable-facts, ite-facts, formula-facts}
