@@ -7,10 +7,12 @@ pub mod TerminalLaws
 pub mod TerminalIdle
 pub mod FactLaws
 pub mod RowLaws
+pub mod FinishProgram
 pub mod FinishLaws
 pub mod FormulaLaws
 pub mod AgainFormulaLaws
 pub mod StepLaws
+pub mod StepFollows
 pub mod EntryLaws
 pub mod ProgramLaws
 pub mod Demand2

@@ -20,7 +20,8 @@ use Rattle.model.specs.Step.{State, write, read, assert, check, evaluate, variab
 use Rattle.model.specs.Frames.{late_row, NineAtCapacity}
 use Rattle.model.specs.Table.{with_more, InMore, NineOf, NineExactly}
 use Rattle.model.proofs.FactLaws.{call-standard, call-told}
-use Rattle.model.proofs.FinishLaws.{of-program, of-write, of-assert}
+use Rattle.model.proofs.FinishProgram.{of-program}
+use Rattle.model.proofs.FinishLaws.{of-write, of-assert}
 use Rattle.model.proofs.FrameLaws.{plain, rows-plain}
 use Rattle.model.proofs.StayLaws.{nine-full}
 use Rattle.model.proofs.FormulaLaws.{triples_fill}
