@@ -31,6 +31,8 @@ pub mod RulingLaws
 pub mod StayLaws
 pub mod StandLaws
 pub mod UnseenLaws
+pub mod EntryFills
+pub mod AccessFills
 pub mod NineLaws
 pub mod TableLaws
 pub mod OrderLaws
