@@ -6,7 +6,7 @@ use Rattle.lines.specs.Lines.{end_line}
 use Rattle.model.specs.Record.{Record}
 use Rattle.model.specs.Step.{State, Call, step, run}
 use Rattle.model.specs.Count.{CountExactly}
-use Rattle.model.proofs.CountLaws.{count-exactly}
+use Rattle.model.proofs.CountFresh.{count-exactly}
 use Rattle.cases.specs.Case.{line_of}
 use Rattle.cases.specs.Claims.{calls_in, state_in, lines_of, CaseText, access_lines, CasePrints, CaseCount}
 use Rattle.cases.proofs.CaseLaws.{case-text, case-begins}

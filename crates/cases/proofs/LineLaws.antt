@@ -9,7 +9,7 @@ use Rattle.lines.proofs.LineClaims.{write_lines, assert-tells}
 use Rattle.model.specs.Step.{State, write, read, assert, check, access, filled, entered, kept, accepted, Answer, done, is_refused, answer_words, Result, Finish, closed, finish_access, step}
 use Rattle.model.specs.Table.{IdleExactly}
 use Rattle.model.specs.Count.{KeptExactly}
-use Rattle.model.proofs.FinishLaws.{of-program}
+use Rattle.model.proofs.FinishProgram.{of-program}
 use Rattle.model.proofs.Demand2.{acts, idle_or-entered, kept_or-entered}
 use Rattle.model.proofs.IdleLaws.{idle-exactly}
 use Rattle.model.proofs.CountLaws.{kept-exactly}

@@ -13,7 +13,7 @@ use Rattle.model.specs.Step.{State, conditions, Call, node_call, Given, triples,
 use Rattle.model.specs.Frames.{StaysValid}
 use Rattle.model.specs.Meanings.{IsListed, AreListed}
 use Rattle.model.proofs.Demand2.{conditions-stand}
-use Rattle.model.proofs.FinishLaws.{of-program}
+use Rattle.model.proofs.FinishProgram.{of-program}
 use Rattle.model.proofs.FormulaLaws.{are-listed}
 use Rattle.model.proofs.FrameLaws.{stays-valid}
 use Rattle.formula_calls.specs.Call.{Making, in_order, listed_over, accesses_by, make, FormulaResult, Found, read_formula, answer_by, after_building, finish_formula, formula_step}

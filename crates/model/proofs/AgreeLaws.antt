@@ -15,7 +15,8 @@ use Rattle.model.specs.Claims.{event, events, Begins}
 use Rattle.model.specs.Meanings.{entry_values}
 use Rattle.model.specs.Count.{LookIsList}
 use Rattle.semantics.proofs.KeptLaws.{SameCells, same-look}
-use Rattle.model.proofs.StepLaws.{AllWide, Holds, step-goes}
+use Rattle.model.proofs.StepLaws.{AllWide, Holds}
+use Rattle.model.proofs.StepFollows.{step-goes}
 use Rattle.model.proofs.EntryLaws.{holds_are}
 use Rattle.model.proofs.Demand3.{begins-holds}
 

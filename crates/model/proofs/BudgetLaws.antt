@@ -19,7 +19,8 @@ use Rattle.semantics.specs.Published.{Entry, keeps}
 use Rattle.semantics.specs.Held.{entries_after}
 use Rattle.model.specs.Frames.{SizesStay}
 use Rattle.model.specs.Count.{SomeExactly, new_entries, entry_count_from, entry_count, CountExactly, BudgetExactly}
-use Rattle.model.proofs.FinishLaws.{of-program, of-write, of-assert}
+use Rattle.model.proofs.FinishProgram.{of-program}
+use Rattle.model.proofs.FinishLaws.{of-write, of-assert}
 use Rattle.model.proofs.FactLaws.{space-room, write-facts}
 use Rattle.model.proofs.FrameLaws.{rows-plain, sizes_stay}
 use Rattle.model.proofs.Demand2.{needs_where}
@@ -28,7 +29,8 @@ use Rattle.model.proofs.SomeLaws.{some-exactly}
 use Rattle.model.proofs.AgreeLaws.{Agrees, agrees_values, run_agrees}
 use Rattle.semantics.specs.Count.{adds_at, entries_after_all}
 use Rattle.semantics.proofs.KeepsLaws.{not-kept-adds}
-use Rattle.model.proofs.CountLaws.{refused-number, new_as, count-exactly}
+use Rattle.model.proofs.CountLaws.{refused-number, new_as}
+use Rattle.model.proofs.CountFresh.{count-exactly}
 
 -- the entries that a state's list takes
 abbrev takes : State → ℕ

@@ -16,7 +16,7 @@ use Rattle.model.specs.Chain.{numbered, freshed, Link, Chained, last_state, fed_
 use Rattle.model.specs.Frames.{FreshLeaves}
 use Rattle.model.specs.Count.{entry_count, CountExactly, ChainCount}
 use Rattle.model.proofs.Demand3.{demand3, from-fresh}
-use Rattle.model.proofs.CountLaws.{count-exactly}
+use Rattle.model.proofs.CountFresh.{count-exactly}
 use Rattle.model.proofs.FrameLaws.{fresh-leaves}
 
 pub calls : List Link → List Call

@@ -17,21 +17,22 @@ use Rattle.semantics.specs.Held.{entries_after}
 use Rattle.semantics.specs.Count.{adds_at, most_entries, accesses_by_hand}
 use Rattle.semantics.proofs.CountLaws.{kept-none, adds_as}
 use Rattle.semantics.proofs.KeepsLaws.{not-kept-adds}
-use Rattle.model.specs.Count.{under_some, SomeExactly, adds_some, how_many, new_entries, entry_count_from, AddsExactly, EntryExactly, KeptExactly, CountExactly, of_variable8, CountedByHand}
+use Rattle.model.specs.Count.{under_some, SomeExactly, adds_some, how_many, new_entries, entry_count_from, AddsExactly, EntryExactly, KeptExactly, of_variable8, CountedByHand}
 use Rattle.model.specs.Step.{State, write, read, assert, check, evaluate, variable, ite, conditions, Call, access, node_call, upkeep, is_kind, Answer, refused, entered, kept, done, is_refused, Result, Finish, closed, finish_access, finish_node, finish, step, run}
 use Rattle.model.specs.Claims.{argument, event, Fed, fed}
 use Rattle.model.specs.Frames.{RefusalLeaves}
 use Rattle.model.specs.Meanings.{entry_values, address_argument, word_argument, Demand2}
 use Rattle.semantics.proofs.KeptLaws.{SameCells}
 use Rattle.model.proofs.StepLaws.{is_left_out, pair_is}
-use Rattle.model.proofs.TerminalLaws.{idle_off}
-use Rattle.model.proofs.FinishLaws.{of-program}
+use Rattle.model.proofs.TerminalIdle.{idle_off}
+use Rattle.model.proofs.FinishProgram.{of-program}
 use Rattle.model.proofs.FactLaws.{write-facts}
 use Rattle.model.proofs.FrameLaws.{refusal-leaves}
 use Rattle.model.proofs.Demand2.{acts, idle_or-entered, kept_or-entered, demand2, entered_where}
 use Rattle.model.proofs.IdleLaws.{not-idle_may}
-use Rattle.model.proofs.SomeLaws.{some-exactly, some-none, some_as, some_of_8}
-use Rattle.model.proofs.AgreeLaws.{Agrees, agrees_values, agrees-next, begins_agrees}
+use Rattle.model.proofs.SomeLaws.{some-exactly}
+use Rattle.model.proofs.SomeUses.{some-none, some_as, some_of_8}
+use Rattle.model.proofs.AgreeLaws.{Agrees, agrees_values, agrees-next}
 
 -- a refused call adds none, and has as many entries as before
 pub refused-number : (x : Answer) → is_refused x ≡ true → (k : ℕ) × (x ≡ refused k)
@@ -149,7 +150,7 @@ new_as y z f g e same S =
     (λ k. some_as (λ φ. adds_at z (f φ) (e φ) k) (λ φ. adds_at z (g φ) (e φ) k) (λ a small. ap (λ (l : List Bool). get_or l k false) (adds_as z (f (bit_at a)) (g (bit_at a)) (S a small) (e (bit_at a)))))
 
 -- so of a list of calls, from a state that agrees with a published list under every assignment
-count-from : (z : Sizes) (cs : List Call) (s : State) (list : (ℕ → Bool) → List Entry) → s.rec.sizes ≡ z → ((a : ℕ) → a < 2 ^ 64 → Agrees (bit_at a) z s (list (bit_at a)))
+pub count-from : (z : Sizes) (cs : List Call) (s : State) (list : (ℕ → Bool) → List Entry) → s.rec.sizes ≡ z → ((a : ℕ) → a < 2 ^ 64 → Agrees (bit_at a) z s (list (bit_at a)))
     → (run cs s).rec.entries ≡ s.rec.entries + entry_count_from z list (fed s cs)
 unfolding run EntryExactly
 count-from z [] s list ez A = omega arith
@@ -159,10 +160,6 @@ count-from z (c ∷ cs) s list ez A =
     let N = agrees-next z 0 (omega arith) c s (list (bit_at 0)) (A 0 (omega arith)) in
     let R = count-from z cs (step c s).after (λ φ. entries_after (list φ) (event φ s c (step c s).answer)) N.sizes_are (λ a small. agrees-next z a small c s (list (bit_at a)) (A a small)) in
     omega (arith, E, same, R)
-
-pub count-exactly : CountExactly
-unfolding CountExactly
-count-exactly s B cs = let C = count-from s.rec.sizes cs s (λ φ. []) refl (λ a small. begins_agrees s B (bit_at a)) in omega (arith, C, B.entries)
 
 -- a count of accesses that turn on variable 8 alone: those that add an entry under one of its values
 by_hand : Sizes → (Bool → List Entry) → List (Bool → Event) → ℕ

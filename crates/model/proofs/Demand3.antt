@@ -25,7 +25,8 @@ use Rattle.model.proofs.MeansLaws.{Means, means_as, near_self, one-means}
 use Rattle.model.proofs.HalfLaws.{half_of, half-X}
 use Rattle.model.proofs.PortLaws.{held_at}
 use Rattle.model.proofs.FactLaws.{fresh-told}
-use Rattle.model.proofs.StepLaws.{Holds, PortsMean, Goes, step-goes, port_is}
+use Rattle.model.proofs.StepLaws.{Holds, PortsMean, Goes, port_is}
+use Rattle.model.proofs.StepFollows.{step-goes}
 
 -- the list of calls goes on telling what the published run of its events does
 pub record Traced (σ : ℕ → Bool) (z : Sizes) (cs : List Call) (s : State) (g : Held) : Type 0 where

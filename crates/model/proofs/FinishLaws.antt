@@ -1,6 +1,6 @@
--- What holds of what a call comes to, case by case: of a program and what follows it, of space, of a write and of an assert.
-use mathlib.Core.Path.{◌≡◌, refl}
-use mathlib.Core.Bool.{Bool, true, false, cond}
+-- What holds of what a call comes to, case by case: of space, of a write and of an assert.
+use mathlib.Core.Path.{◌≡◌}
+use mathlib.Core.Bool.{true, false}
 use mathlib.Core.List.{List}
 use Prim.Native.Nat.{ℕ}
 use lib.Dec.{eqb}
@@ -8,18 +8,10 @@ use Rattle.nodes.proofs.BoolLaws.{split}
 use Rattle.conditions.specs.Build.{Outcome}
 use Rattle.model.specs.Access.{Marks, AssertBuilt}
 use Rattle.model.specs.Rows.{space_for}
-use Rattle.model.specs.Step.{State, assert, place, idle, entered, kept, Finish, full, short, gives, unless_full, grown, with_entry, with_assert_condition, if_space, assert_first, entry_built, enter, is_idle, write_built, finish_write, finish_access}
+use Rattle.model.specs.Step.{State, assert, place, idle, entered, kept, Finish, full, short, gives, grown, with_entry, with_assert_condition, if_space, assert_first, entry_built, enter, is_idle, write_built, finish_write, finish_access}
+use Rattle.model.proofs.FinishProgram.{of-program}
 
 module _ (P : Finish → Type 0) where
-  -- a program: its store is full, or what follows
-  pub of-program : {A : Type 0} (x : Outcome A) (k : A → List ℕ → ℕ → Finish) → (x.store.full ≡ true → P (full x.store)) → (x.store.full ≡ false → P (k x.answer x.words x.store.count)) → P (unless_full x k)
-  unfolding unless_full
-  of-program x k f g = go x.store.full refl
-    where
-      go : (b : Bool) → x.store.full ≡ b → P (cond b (full x.store) (k x.answer x.words x.store.count))
-      go true e = f e
-      go false e = g e
-
   -- space for k entries, or none
   pub of_space : (k : ℕ) (s : State) (x : Finish) → (space_for s.rec s.words k s.list ≡ true → P x) → (space_for s.rec s.words k s.list ≡ false → P short) → P (if_space k s x)
   of_space k s x f g = split (space_for s.rec s.words k s.list) (λ t. rw t (f t)) (λ t. rw t (g t))
@@ -34,7 +26,7 @@ module _ (P : Finish → Type 0) where
         → (is_idle c ≡ false → x.store.full ≡ false → space_for s.rec s.words 1 s.list ≡ false → P short) → P (finish_write c a d s)
     unfolding finish_write
     of-write idles overflows enters lacks =
-        split (is_idle c) (λ i. rw i (idles i)) (λ i. rw i (of-program x _ (overflows i) (λ f. of_space 1 s _ (enters i f) (lacks i f))))
+        split (is_idle c) (λ i. rw i (idles i)) (λ i. rw i (of-program P x _ (overflows i) (λ f. of_space 1 s _ (enters i f) (lacks i f))))
 
   -- an assert: what it builds first overflows, or it is kept; or it has no space for its entry, or its Write overflows, or it is entered
   module _ (b : ℕ) (a d : List ℕ) (s : State) where
@@ -52,6 +44,6 @@ module _ (P : Finish → Type 0) where
         → P (finish_access (assert b a d) s)
     unfolding finish_access enter
     of-assert first keeps lacks overflows enters =
-        of-program q (enter s b a d) first
+        of-program P q (enter s b a d) first
         (λ f. split (eqb q.answer.keep 1) (λ k. rw k (keeps f k))
-        (λ k. rw k (of_space 1 s _ (λ r. of-program y _ (overflows f k r) (enters f k r)) (lacks f k))))
+        (λ k. rw k (of_space 1 s _ (λ r. of-program P y _ (overflows f k r) (enters f k r)) (lacks f k))))

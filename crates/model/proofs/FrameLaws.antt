@@ -25,7 +25,8 @@ use Rattle.model.proofs.MeansLaws.{Means, user-means}
 use Rattle.model.proofs.AccessLaws.{write-means}
 use Rattle.model.proofs.FormulaLaws.{formula-builds}
 use Rattle.model.proofs.FactLaws.{row1-tells, names, users_tell, space-room, write-facts, read-facts, check-facts, assert-facts, variable-facts, ite-facts, formula-facts, fresh-told}
-use Rattle.model.proofs.FinishLaws.{of-program, of-write, of-assert}
+use Rattle.model.proofs.FinishProgram.{of-program}
+use Rattle.model.proofs.FinishLaws.{of-write, of-assert}
 use Rattle.model.proofs.RowLaws.{length_pairs, names_halves}
 use Rattle.model.proofs.ProgramLaws.{read-program, check-program, assert-program}
 use Rattle.model.proofs.ValidLaws.{User, user-stays, user-grows, with_conditions, users_stay, conditions-valid, conditions_extended, entry_extended, no-entries, entry-valid, ports-users, users-ports, latched-valid}

@@ -3,7 +3,7 @@ use mathlib.Core.Path.{◌≡◌, refl, sym, ap, subst, ◌∙◌}
 use mathlib.Core.Bool.{Bool, true, false, cond, false≢true, true≢false}
 use mathlib.Core.Logic.{◌⊎◌, inl, inr}
 use mathlib.Core.List.{List}
-use Prim.Native.Nat.{ℕ, zero, suc, ◌*◌, ◌/◌, ◌<◌, ◌≤◌, min}
+use Prim.Native.Nat.{ℕ, zero, suc, ◌/◌, ◌<◌, ◌≤◌, min}
 use native.Mathlib.Omega.{arith}
 use lib.Dec.{eqb}
 use lib.ListN.{get_or}
@@ -12,83 +12,21 @@ use Rattle.conditions.specs.Stores.{Standard, capacity_of}
 use Rattle.conditions.specs.Assignment.{bit_at}
 use Rattle.conditions.specs.Build.{Store, Outcome, Build}
 use Rattle.conditions.specs.Meaning.{Within, longer, Fills}
-use Rattle.conditions.proofs.Promises.{standard-within, pure-fills, next-fills, each-fills, variable-fills, ite-fills, any-fills, value-longer}
-use Rattle.model.specs.Record.{Record, h_at, l_at, entry_at, address_of, data_of, held_word}
-use Rattle.model.specs.Access.{unique_bit, Unique, Certain, Write, narrow_bit, Narrow, half_step, EachHalf, merge_half, entry_step, settle_half, Look, Read, inside_half, Inside, Check, AssertBuilt, Assert, hold_half}
+use Rattle.conditions.proofs.Promises.{standard-within, variable-fills, ite-fills, value-longer}
+use Rattle.model.specs.Record.{held_word}
+use Rattle.model.specs.Access.{Write, AssertBuilt, Assert}
 use Rattle.model.specs.Rows.{space_for}
 use Rattle.model.specs.Step.{State, write, read, assert, check, evaluate, variable, ite, conditions, Call, access, node_call, upkeep, Given, valued, is_refused, refused, refusal, Finish, full, short, gives, closed, unless_full, begin, grown, with_entry, with_check_condition, assert_first, enter, is_idle, finish_write, finish_access, finish_node, finish, turned_down_by, step, with_held}
 use Rattle.model.specs.Frames.{late_row, NineAtCapacity}
 use Rattle.model.specs.Table.{with_more, InMore, NineOf, NineExactly}
 use Rattle.model.proofs.FactLaws.{call-standard, call-told}
-use Rattle.model.proofs.FinishLaws.{of-program, of-write, of-assert}
+use Rattle.model.proofs.FinishProgram.{of-program}
+use Rattle.model.proofs.FinishLaws.{of-write, of-assert}
 use Rattle.model.proofs.FrameLaws.{plain, rows-plain}
 use Rattle.model.proofs.StayLaws.{nine-full}
 use Rattle.model.proofs.FormulaLaws.{triples_fill}
-
-certain-fills : (h l : ℕ) → Fills (Certain h l)
-unfolding Certain
-certain-fills h l = next-fills (ite-fills l 0 1) (λ x. ite-fills h x 0)
-
-unique-fills : (n : ℕ) (a : List ℕ) → Fills (Unique n a)
-unfolding Unique unique_bit
-unique-fills n a = each-fills _ (λ i u. next-fills (ite-fills (h_at a i) (l_at a i) 0) (λ x. next-fills (ite-fills x 0 1) (λ y. ite-fills u y 0))) 0 n 1
-
-write-fills : (n h l : ℕ) (a : List ℕ) → Fills (Write n h l a)
-unfolding Write
-write-fills n ch cl a =
-    next-fills (certain-fills ch cl)
-    (λ hard. next-fills (unique-fills n a)
-    (λ u. next-fills (ite-fills hard u 0)
-    (λ h. next-fills (ite-fills ch cl 0) (λ x. next-fills (ite-fills u 0 1) (λ y. next-fills (ite-fills hard y 0) (λ z. next-fills (ite-fills x 1 z) (λ s. pure-fills _)))))))
-
-narrow-fills : (n : ℕ) (a : List ℕ) (m : ℕ) → Fills (Narrow n a m)
-unfolding Narrow narrow_bit
-narrow-fills n a m = each-fills _ (λ i m. next-fills (variable-fills i) (λ x. next-fills (ite-fills x (h_at a i) (l_at a i)) (λ t. ite-fills m t 0))) 0 n m
-
-halves-fills : (f : ℕ → ℕ → Build ℕ) → ((j x : ℕ) → Fills (f j x)) → (k : ℕ) (r : List ℕ) → Fills (EachHalf f k r)
-unfolding EachHalf half_step
-halves-fills f F k r = each-fills _ (λ j r. next-fills (F j (get_or r j 0)) (λ x. pure-fills _)) 0 k r
-
-entry-fills : (r : Record) (inside : ℕ) (entry word : List ℕ) → Fills (entry_step r inside entry word)
-unfolding entry_step merge_half
-entry-fills r inside entry word =
-    next-fills (narrow-fills r.sizes.n (address_of r entry) inside)
-    (λ m. next-fills (ite-fills m (get_or entry 0 0) 0)
-    (λ hm. next-fills (ite-fills m (get_or entry 1 0) 0)
-    (λ sm. halves-fills _ (λ k x. next-fills (ite-fills (get_or (data_of r entry) k 0) 1 x) (λ y. next-fills (ite-fills sm y x) (λ z. ite-fills hm (get_or (data_of r entry) k 0) z))) (2 * r.sizes.w) word)))
-
-look-fills : (r : Record) (l a : List ℕ) → Fills (Look r l a)
-unfolding Look settle_half
-look-fills r l a =
-    next-fills (narrow-fills r.sizes.n a 1)
-    (λ inside. next-fills (each-fills _ (λ j. entry-fills r inside (entry_at r l j)) 0 r.entries _)
-    (λ word. halves-fills _ (λ k x. next-fills (ite-fills inside x 0) (λ y. any-fills y)) (2 * r.sizes.w) word))
-
-read-fills : (r : Record) (l held : List ℕ) (h e : ℕ) (a : List ℕ) → Fills (Read r l held h e a)
-unfolding Read hold_half
-read-fills r l held h e a =
-    next-fills (look-fills r l a)
-    (λ word. next-fills (ite-fills h e 0) (λ c. halves-fills _ (λ k x. next-fills (ite-fills c x h) (λ t. ite-fills t x (get_or held k 0))) (2 * r.sizes.w) word))
-
-inside-fills : (k : ℕ) (x y : List ℕ) → Fills (Inside k x y)
-unfolding Inside inside_half
-inside-fills k x y = each-fills _ (λ j c. next-fills (ite-fills (get_or x j 0) 0 1) (λ p. next-fills (ite-fills p 1 (get_or y j 0)) (λ q. ite-fills c q 0))) 0 k 1
-
-check-fills : (r : Record) (l : List ℕ) (b : ℕ) (a d : List ℕ) → Fills (Check r l b a d)
-unfolding Check
-check-fills r l b a d =
-    next-fills (look-fills r l a)
-    (λ word. next-fills (inside-fills (2 * r.sizes.w) word d) (λ c. next-fills (ite-fills b 0 1) (λ x. next-fills (ite-fills x 1 c) (λ y. ite-fills r.checked y 0))))
-
-assert-fills : (r : Record) (l : List ℕ) (b : ℕ) (a d : List ℕ) → Fills (Assert r l b a d)
-unfolding Assert
-assert-fills r l b a d =
-    next-fills (look-fills r l a)
-    (λ word. next-fills (inside-fills (2 * r.sizes.w) d word)
-    (λ x. next-fills (ite-fills b 0 1)
-    (λ v. next-fills (ite-fills v 1 x)
-    (λ y. next-fills (ite-fills r.asserted y 0)
-    (λ condition. next-fills (inside-fills (2 * r.sizes.w) word d) (λ c. next-fills (ite-fills x c 0) (λ z. next-fills (ite-fills v 1 z) (λ k. pure-fills _))))))))
+use Rattle.model.proofs.EntryFills.{write-fills}
+use Rattle.model.proofs.AccessFills.{read-fills, check-fills, assert-fills}
 
 module _ (s : State) (S : Standard s.words s.rec.count) where
   abbrev capacity : ℕ

@@ -8,7 +8,8 @@ use borrow.Author.Tests.{eq-eqb}
 use Rattle.nodes.proofs.BoolLaws.{split}
 use Rattle.model.specs.Step.{State, write, read, assert, check, evaluate, variable, ite, conditions, Call, access, node_call, upkeep, refused, is_refused, refusal, Finish, full, short, gives, closed, finish_access, finish_node, finish, turned_down_by, step, is_kind}
 use Rattle.model.specs.Frames.{late_row, RefusedByRow, RowRefuses, ConditionsStay}
-use Rattle.model.proofs.FinishLaws.{of-program, of-write, of-assert}
+use Rattle.model.proofs.FinishProgram.{of-program}
+use Rattle.model.proofs.FinishLaws.{of-write, of-assert}
 
 -- what is closed is refused by its late row, and else not
 closed-refused : (s : State) (x : Finish) (k : ℕ) → (closed s x).answer ≡ refused k → eqb (late_row x) k ≡ true

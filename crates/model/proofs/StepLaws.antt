@@ -37,9 +37,10 @@ use Rattle.model.proofs.HalfLaws.{half_even, half_odd}
 use Rattle.model.proofs.AccessLaws.{Halves, EntryMeans, no_entry, EntriesMean, up_halves, up-entries, MarksMean, write-means, Word, read-means, check-means, AssertBuiltMean, assert-means}
 use Rattle.model.proofs.PortLaws.{held_at, replaced-length, replaced_in, replaced_other, half_at}
 use Rattle.model.proofs.ListLaws.{new-address, new_data, entry_old, entry_new}
-use Rattle.model.proofs.TerminalLaws.{idle_off}
+use Rattle.model.proofs.TerminalIdle.{idle_off}
 use Rattle.model.proofs.FormulaLaws.{formula-builds}
-use Rattle.model.proofs.FinishLaws.{of-program, of-write, of-assert}
+use Rattle.model.proofs.FinishProgram.{of-program}
+use Rattle.model.proofs.FinishLaws.{of-write, of-assert}
 use Rattle.model.proofs.FactLaws.{space-room, write-facts, read-facts, check-facts, assert-facts, variable-facts, ite-facts, formula-facts}
 use Rattle.model.proofs.RowLaws.{length_pairs, name-means, names_halves, pair-legal, pairs-legal, pairs-unique}
 
@@ -149,7 +150,7 @@ free-store P s e p = subst P (λ i. record { count = s.count; full = e i }) p
 
 module _ (σ : ℕ → Bool) (s : State) (h : Held) (H : Holds σ s h) (c : Call) where
   -- a refusal that leaves everything
-  turned_follows : (k : ℕ) → Follows σ s h c (turned_down k s)
+  pub turned_follows : (k : ℕ) → Follows σ s h c (turned_down k s)
   turned_follows k = record { sizes = refl; accepted = tt; left_out = λ z. absurd (false≢true z); holds = H; long = λ n. n; ports = λ n P. P; bits = λ P i l b. (λ z. z, λ z. z) }
 
   module _ (S : Standard s.words s.rec.count) where
@@ -243,7 +244,7 @@ module _ (k : ℕ) (small : k < 2 ^ 64) (s : State) (h : Held) (H : Holds (bit_a
   names-port : {p : ℕ} {en a out : List ℕ} → ReadFacts s p en a out → Halves σ 8 (2 * s.rec.sizes.w) (λ τ. pair_at σ s.words (held_word s.rec s.ports p)) s.words (begin s.rec) (held_word s.rec s.ports p)
   names-port {p} F = record { half = λ i l. means_as (name-means σ s.rec s.words F.memory.standard (rw (held_at s.rec s.ports p i l) (F.ports p (omega (arith, F.port)) i l))) (λ τ. half_at σ s.words (held_word s.rec s.ports p) i) }
 
-  write_follows : (c a d : List ℕ) → refusal (access (write c a d)) s ≡ 0 → Follows σ s h (access (write c a d)) (closed s (finish (access (write c a d)) s))
+  pub write_follows : (c a d : List ℕ) → refusal (access (write c a d)) s ≡ 0 → Follows σ s h (access (write c a d)) (closed s (finish (access (write c a d)) s))
   unfolding finish_access closed list_capacity
   write_follows c a d e =
       let F = write-facts s c a d e in
@@ -284,7 +285,7 @@ module _ (k : ℕ) (small : k < 2 ^ 64) (s : State) (h : Held) (H : Holds (bit_a
       })
       (λ z e u. cleared_follows σ s h H (access (write c a d)) S 8)
 
-  read_follows : (p : ℕ) (en a out : List ℕ) → refusal (access (read p en a out)) s ≡ 0 → Follows σ s h (access (read p en a out)) (closed s (finish (access (read p en a out)) s))
+  pub read_follows : (p : ℕ) (en a out : List ℕ) → refusal (access (read p en a out)) s ≡ 0 → Follows σ s h (access (read p en a out)) (closed s (finish (access (read p en a out)) s))
   unfolding finish_access closed
   read_follows p en a out e =
       let F = read-facts s p en a out e in
@@ -318,7 +319,7 @@ module _ (k : ℕ) (small : k < 2 ^ 64) (s : State) (h : Held) (H : Holds (bit_a
             (pair_is (pair_at σ x.words x.answer i) (f i) ((W.half (2 * i) (omega arith)).is e σ (near_self σ) ∙ half_even i f) ((W.half (2 * i + 1) (omega arith)).is e σ (near_self σ) ∙ half_odd i f));
       })
 
-  check_follows : (b : ℕ) (a d : List ℕ) → refusal (access (check b a d)) s ≡ 0 → Follows σ s h (access (check b a d)) (closed s (finish (access (check b a d)) s))
+  pub check_follows : (b : ℕ) (a d : List ℕ) → refusal (access (check b a d)) s ≡ 0 → Follows σ s h (access (check b a d)) (closed s (finish (access (check b a d)) s))
   unfolding finish_access closed
   check_follows b a d e =
       let F = check-facts s b a d e in
@@ -457,13 +458,13 @@ module _ (k : ℕ) (small : k < 2 ^ 64) (s : State) (h : Held) (H : Holds (bit_a
             bits = λ P i l b. (λ z. z, λ z. z);
           }
 
-    assert_follows : Follows σ s h (access (assert b a d)) (closed s (finish (access (assert b a d)) s))
+    pub assert_follows : Follows σ s h (access (assert b a d)) (closed s (finish (access (assert b a d)) s))
     unfolding closed
     assert_follows =
         of-assert (λ (z : Finish). Follows σ s h (access (assert b a d)) (closed s z)) b a d s (λ f. cleared_follows σ s h H (access (assert b a d)) standard 9) (λ f k. kept_follows f (eqb-true _ _ k))
         (λ f k r. cleared_follows σ s h H (access (assert b a d)) standard 8) (λ f k r g. cleared_follows σ s h H (access (assert b a d)) standard 9) (λ f k r g. entered_follows f (space-room s.rec s.words s.list r) g)
 
-  node_follows : (c : NodeCall) → refusal (node_call c) s ≡ 0 → Follows σ s h (node_call c) (closed s (finish (node_call c) s))
+  pub node_follows : (c : NodeCall) → refusal (node_call c) s ≡ 0 → Follows σ s h (node_call c) (closed s (finish (node_call c) s))
   unfolding finish_node closed
   node_follows (evaluate f φ) e = record { sizes = refl; accepted = tt; left_out = λ z. absurd (false≢true z); holds = H; long = λ n. n; ports = λ n P. P; bits = λ P i l b. (λ z. z, λ z. z) }
   node_follows (variable v) e =
@@ -484,22 +485,6 @@ module _ (k : ℕ) (small : k < 2 ^ 64) (s : State) (h : Held) (H : Holds (bit_a
       nine_follows σ s h H (node_call (conditions t)) S (Triples 0 1 t s.words (begin s.rec)) _
       (λ q. record { sizes = refl; accepted = tt; left_out = λ z. absurd (false≢true z); holds = grown-holds σ s h H (node_call (conditions t)) S X q; long = λ n. n; ports = λ n P. grown-ports σ s h H (node_call (conditions t)) S X q P; bits = λ P i l b. (λ z. z, λ z. z) })
 
-  finish_follows : (c : Call) → refusal c s ≡ 0 → Follows σ s h c (closed s (finish c s))
-  finish_follows (access (write c a d)) e = write_follows c a d e
-  finish_follows (access (read p en a out)) e = read_follows p en a out e
-  finish_follows (access (assert b a d)) e = assert_follows b a d e
-  finish_follows (access (check b a d)) e = check_follows b a d e
-  finish_follows (node_call c) e = node_follows c e
-  finish_follows (upkeep c) e = absurd c
-
-  pub step_follows : (c : Call) → Follows σ s h c (step c s)
-  unfolding step
-  step_follows c = go (refusal c s) refl
-    where
-      go : (n : ℕ) → refusal c s ≡ n → Follows σ s h c (turned_down_by n s (closed s (finish c s)))
-      go zero e = finish_follows c e
-      go (suc n) e = turned_follows σ s h H c (suc n)
-
 -- What the list of calls goes on by: a call leaves a state that holds something, and whatever told the same as what was held, after the call's event tells the same as this. That it is the published list is not asked
 pub record Goes (σ : ℕ → Bool) (s : State) (h : Held) (c : Call) (x : Result) : Type 0 where
   pub sizes : x.after.rec.sizes ≡ s.rec.sizes
@@ -512,7 +497,7 @@ pub record Goes (σ : ℕ → Bool) (s : State) (h : Held) (c : Call) (x : Resul
   pub ports : length s.ports ≡ 128 → PortsMean σ s h.ports → PortsMean σ x.after next.ports
   pub bits : PortsMean σ s h.ports → (i : ℕ) → i < data_bits s.rec.sizes → (b : Bool) → BitMay σ x.after.words x.answer i b ↔ NowMay s.rec.sizes h (event σ s c x.answer) i b
 
-follows-goes : (σ : ℕ → Bool) (s : State) (h : Held) (c : Call) (x : Result) → Follows σ s h c x → Goes σ s h c x
+pub follows-goes : (σ : ℕ → Bool) (s : State) (h : Held) (c : Call) (x : Result) → Follows σ s h c x → Goes σ s h c x
 follows-goes σ s h c x F = record {
   sizes = F.sizes;
   accepted = F.accepted;
@@ -528,6 +513,3 @@ follows-goes σ s h c x F = record {
     wide : (k : Bool) → AllWide (cell_bits s.rec.sizes) h.entries → AllWide (cell_bits s.rec.sizes) (list_after s.rec.sizes h k (event σ s c x.answer)).entries
     wide true W = W
     wide false W = wide-after s.rec.sizes h (event σ s c x.answer) F.accepted W
-
-pub step-goes : (a : ℕ) → a < 2 ^ 64 → (s : State) (h : Held) → Holds (bit_at a) s h → (c : Call) → Goes (bit_at a) s h c (step c s)
-step-goes a small s h H c = follows-goes (bit_at a) s h c (step c s) (step_follows a small s h H c)

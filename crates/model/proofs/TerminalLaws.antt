@@ -45,7 +45,3 @@ idle_zero c e = eqb-true (get_or c 0 0) 0 e
 
 pub other_not_zero : (c : List ℕ) → is_idle c ≡ false → get_or c 0 0 ≡ 0 → ⊥
 other_not_zero c e = eqb-false (get_or c 0 0) 0 e
-
--- then it is 0 under any assignment
-pub idle_off : (c w : List ℕ) (φ : ℕ → Bool) → is_idle c ≡ true → value w φ (get_or c 0 0) ≡ false
-idle_off c w φ e = rw (idle_zero c e) (value_0 w φ)
