@@ -21,6 +21,7 @@ pub mod SomeLaws
 pub mod AgreeLaws
 pub mod CountLaws
 pub mod BudgetLaws
+pub mod RunBudgetLaws
 pub mod ChainLaws
 pub mod RulingLaws
 pub mod StayLaws
