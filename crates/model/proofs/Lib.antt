@@ -15,6 +15,7 @@ pub mod ProgramLaws
 pub mod Demand2
 pub mod ValidLaws
 pub mod FrameLaws
+pub mod AnswersLeftLaws
 pub mod Demand3
 pub mod IdleLaws
 pub mod SomeLaws
