@@ -24,7 +24,8 @@ use Rattle.model.specs.Frames.{clears, words_after, RefusalLeaves, RefusalNumber
 use Rattle.model.proofs.MeansLaws.{Means, user-means}
 use Rattle.model.proofs.AccessLaws.{write-means}
 use Rattle.model.proofs.FormulaLaws.{formula-builds}
-use Rattle.model.proofs.FactLaws.{row1-tells, names, users_tell, space-room, write-facts, read-facts, check-facts, assert-facts, variable-facts, ite-facts, formula-facts, fresh-told}
+use Rattle.model.proofs.FactLaws.{row1-tells, names, users_tell, space-room, fresh-told}
+use Rattle.model.proofs.CallFactLaws.{write-facts, read-facts, check-facts, assert-facts, variable-facts, ite-facts, formula-facts}
 use Rattle.model.proofs.FinishLaws.{of-program, of-write, of-assert}
 use Rattle.model.proofs.RowLaws.{length_pairs, names_halves}
 use Rattle.model.proofs.ProgramLaws.{read-program, check-program, assert-program}

@@ -5,6 +5,7 @@ pub mod ListLaws
 pub mod PortLaws
 pub mod TerminalLaws
 pub mod FactLaws
+pub mod CallFactLaws
 pub mod RowLaws
 pub mod FinishLaws
 pub mod FormulaLaws

@@ -14,7 +14,7 @@ use Rattle.semantics.specs.Published.{keeps}
 use Rattle.model.specs.Frames.{SizesStay}
 use Rattle.model.specs.Count.{SomeExactly, new_entries, BudgetExactly}
 use Rattle.model.proofs.FinishLaws.{of-write, of-assert}
-use Rattle.model.proofs.FactLaws.{write-facts}
+use Rattle.model.proofs.CallFactLaws.{write-facts}
 use Rattle.model.proofs.FrameLaws.{rows-plain, sizes_stay}
 use Rattle.model.proofs.Demand2.{needs_where}
 use Rattle.model.proofs.IdleLaws.{not-idle_may}

@@ -40,7 +40,8 @@ use Rattle.model.proofs.ListLaws.{new-address, new_data, entry_old, entry_new}
 use Rattle.model.proofs.TerminalLaws.{idle_off}
 use Rattle.model.proofs.FormulaLaws.{formula-builds}
 use Rattle.model.proofs.FinishLaws.{of-program, of-write, of-assert}
-use Rattle.model.proofs.FactLaws.{space-room, write-facts, read-facts, check-facts, assert-facts, variable-facts, ite-facts, formula-facts}
+use Rattle.model.proofs.FactLaws.{space-room}
+use Rattle.model.proofs.CallFactLaws.{write-facts, read-facts, check-facts, assert-facts, variable-facts, ite-facts, formula-facts}
 use Rattle.model.proofs.RowLaws.{length_pairs, name-means, names_halves, pair-legal, pairs-legal, pairs-unique}
 
 -- the list leaves out an idle write, and an assert that is kept
