@@ -1,6 +1,7 @@
 pub mod MeansLaws
 pub mod HalfLaws
 pub mod AccessLaws
+pub mod ReadMeansLaws
 pub mod ListLaws
 pub mod PortLaws
 pub mod TerminalLaws
