@@ -12,7 +12,8 @@ use Rattle.model.specs.Record.{h_at, l_at}
 use Rattle.model.specs.Access as built
 use Rattle.model.specs.Rows.{first_row, check_rows, assert_rows}
 use Rattle.model.specs.Step.{begin, Finish, full, short, gives, closed, enter}
-use Rattle.model.proofs.FactLaws.{first-append, assert-facts}
+use Rattle.model.proofs.FactLaws.{first-append}
+use Rattle.model.proofs.CallFactLaws.{assert-facts}
 use Rattle.model.proofs.ProgramLaws.{assert-program, assert-entry-clears}
 use Rattle.building.specs.Contract.{Nodes, Looks}
 use Rattle.model.specs.declared.Fields.{Fields}

@@ -4,7 +4,7 @@ use mathlib.Core.List.{[]}
 use native.Mathlib.Omega.{arith}
 use Rattle.model.specs.Step.{write, access, Answer, Result}
 use Rattle.model.specs.Table.{IdleExactly}
-use Rattle.model.proofs.FactLaws.{write-facts}
+use Rattle.model.proofs.CallFactLaws.{write-facts}
 use Rattle.model.proofs.Demand2.{acts, idle_or-entered}
 use Rattle.model.proofs.IdleLaws.{idle-exactly}
 use Rattle.record_words.specs.Words.{state_in}

@@ -8,7 +8,7 @@ use Rattle.conditions.proofs.Promises.{builds_clear}
 use Rattle.model.specs.Access as built
 use Rattle.model.specs.Rows.{first_row, check_rows}
 use Rattle.model.specs.Step.{begin}
-use Rattle.model.proofs.FactLaws.{check-facts}
+use Rattle.model.proofs.CallFactLaws.{check-facts}
 use Rattle.model.proofs.ProgramLaws.{check-program}
 use Rattle.model.specs.declared.Fields.{Fields}
 use Rattle.rows.specs.Contract.{state_of}

@@ -14,7 +14,7 @@ use Rattle.conditions.specs.Meaning.{Meaning, Builds}
 use Rattle.conditions.proofs.Promises.{pure-builds, next-builds, builds_weaker, each-builds}
 use Rattle.semantics.specs.Pairs.{Pair, X, admit, admits, known, unique, at}
 use Rattle.model.specs.Record.{Record, h_at, l_at, entry_at, address_of, data_of}
-use Rattle.model.specs.Access.{unique_bit, Unique, Marks, Certain, Write, narrow_bit, Narrow, half_step, EachHalf, merge_half, entry_step, settle_half, Look, hold_half, Read, inside_half, Inside, Check, AssertBuilt, Assert}
+use Rattle.model.specs.Access.{unique_bit, Unique, Marks, Certain, Write, narrow_bit, Narrow, half_step, EachHalf, merge_half, entry_step, settle_half, Look, hold_half, inside_half, Inside, Check, AssertBuilt, Assert}
 use Rattle.semantics.specs.Published.{Entry, certain, entry, union, look, holding, answer, inside, assert_holds, check_holds, keeps}
 use Rattle.model.proofs.MeansLaws.{Means, means_as, means-from, up, one-means, ite-means, not-means, and-means, or-means, variable-means, any-means, placed, place, length-place}
 use Rattle.model.proofs.HalfLaws.{half_of, half_even, half_odd, half-same, half-X, half_over, half-hold, over_in, scan_in, scan_in_snoc, look_is, unique-more, admits-more, inside_halves, inside_halves_lem}
@@ -166,7 +166,7 @@ module _ {σ : ℕ → Bool} (C : List ℕ → Store → Type 0) (stays : (A : T
       done X h k (yes e) = rw (e, get_or-set_same r j (f j (get_or r j 0) w s).answer 0 (omega (arith, I.0))) X.post
       done X h k (no e) = rw (get_or-set_other r j h (f j (get_or r j 0) w s).answer 0 e) (up S X (I.1 h (omega arith)))
 
-  each_half : (r : List ℕ) (w : List ℕ) (s : Store) → Standard w s.count → C w s → length r ≡ K → Halves σ u K φ w s r
+  pub each_half : (r : List ℕ) (w : List ℕ) (s : Store) → Standard w s.count → C w s → length r ≡ K → Halves σ u K φ w s r
       → Builds w s (λ w s r. (length r ≡ K) × Halves σ v K ψ w s r) (EachHalf f K r w s)
   unfolding EachHalf
   each_half r w s S c len R =
@@ -260,26 +260,13 @@ module _ {σ : ℕ → Bool} (r : Record) (l : List ℕ) (small : r.sizes.n ≤ 
           builds_weaker (next-builds Y1 _ Y2) (λ N. means_as N (λ τ. look_is r.sizes.n small es qs j τ))
 
   -- each half of a look beside the same half of the word that the port holds
-  hold-means : (e : Pair) (f g : ℕ → Pair) (eh held-s j x : ℕ) (held : List ℕ) (w : List ℕ) (s : Store) → j < 2 * r.sizes.w → Standard w s.count → Means σ 8 (λ τ. e.h && e.l) w s held-s → Means σ 8 (λ τ. e.h) w s eh
+  pub hold-means : (e : Pair) (f g : ℕ → Pair) (eh held-s j x : ℕ) (held : List ℕ) (w : List ℕ) (s : Store) → j < 2 * r.sizes.w → Standard w s.count → Means σ 8 (λ τ. e.h && e.l) w s held-s → Means σ 8 (λ τ. e.h) w s eh
       → Halves σ 8 (2 * r.sizes.w) (λ τ. g) w s held → Means σ 8 (λ τ. half_of j f) w s x → Builds w s (Means σ 8 (λ τ. half_of j (λ i. holding e (f i) (g i)))) (hold_half held-s eh (get_or held j 0) x w s)
   unfolding hold_half
   hold-means e f g eh held-s j x held w s h S B H G R =
       let Z1 = ite-means S B R H in
       let Z2 = ite-means Z1.standard Z1.post (up S Z1 R) (up S Z1 (G.half j h)) in
       builds_weaker (next-builds Z1 _ Z2) (λ N. means_as N (λ τ. half-hold e j f g))
-
-  pub read-means : (es : List Entry) (eh el : ℕ) (held a : List ℕ) (e : Pair) (g : ℕ → Pair) (qs : List Pair) → length qs ≡ r.sizes.n → (w : List ℕ) (s : Store) → Standard w s.count → EntriesMean σ r es w s l
-      → Means σ 8 (λ τ. e.h) w s eh → Means σ 8 (λ τ. e.l) w s el → Halves σ 8 (2 * r.sizes.w) (λ τ. g) w s held → Halves σ 8 (2 * r.sizes.n) (λ τ. at qs) w s a
-      → Builds w s (Word σ 8 (2 * r.sizes.w) (λ τ. answer r.sizes es g e qs)) (Read r l held eh el a w s)
-  unfolding Read
-  read-means es eh el held a e g qs len w s S E H L G A =
-      let X1 = look-means es a qs len w s S E A in
-      let X2 = and-means X1.standard (up S X1 H) (up S X1 L) in
-      let X3 = each_half (λ w s. Means σ 8 (λ τ. e.h && e.l) w s _ × Means σ 8 (λ τ. e.h) w s eh × Halves σ 8 (2 * r.sizes.w) (λ τ. g) w s held) (λ A w s P x S X M. (up S X M.0, up S X M.1, up_halves S X M.2))
-      (λ k. hold_half _ eh (get_or held k 0)) (2 * r.sizes.w) 8 8 (λ τ. look r.sizes.n es qs) (λ τ. answer r.sizes es g e qs)
-      (λ j x w s h S I R. hold-means e (look r.sizes.n es qs) g eh _ j x held w s h S I.0 I.1 I.2 R) _ _ _ X2.standard
-      (X2.post, up X1.standard X2 (up S X1 H), up_halves X1.standard X2 (up_halves S X1 G)) X1.post.size (up_halves X1.standard X2 X1.post.halves) in
-      next-builds X1 _ (next-builds X2 _ (builds_weaker X3 (λ Q. record { size = Q.0; halves = Q.1 })))
 
 module _ {σ : ℕ → Bool} where
   pub inside-means : (k : ℕ) (x y : List ℕ) (f g : ℕ → Pair) (w : List ℕ) (s : Store) → Standard w s.count → Halves σ 8 (2 * k) (λ τ. f) w s x → Halves σ 8 (2 * k) (λ τ. g) w s y

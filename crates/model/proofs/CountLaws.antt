@@ -26,7 +26,7 @@ use Rattle.semantics.proofs.KeptLaws.{SameCells}
 use Rattle.model.proofs.StepLaws.{is_left_out, pair_is}
 use Rattle.model.proofs.TerminalIdle.{idle_off}
 use Rattle.model.proofs.FinishProgram.{of-program}
-use Rattle.model.proofs.FactLaws.{write-facts}
+use Rattle.model.proofs.CallFactLaws.{write-facts}
 use Rattle.model.proofs.FrameLaws.{refusal-leaves}
 use Rattle.model.proofs.Demand2.{acts, idle_or-entered, kept_or-entered, demand2, entered_where}
 use Rattle.model.proofs.IdleLaws.{not-idle_may}

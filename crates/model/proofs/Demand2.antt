@@ -32,7 +32,7 @@ use Rattle.model.proofs.TerminalLaws.{somewhere_false}
 use Rattle.model.proofs.TerminalIdle.{idle_off}
 use Rattle.model.proofs.FinishLaws.{of-write, of-assert}
 use Rattle.model.proofs.FormulaLaws.{StandListed, formula-builds, are-listed}
-use Rattle.model.proofs.FactLaws.{write-facts, read-facts, check-facts, assert-facts, variable-facts, ite-facts, formula-facts}
+use Rattle.model.proofs.CallFactLaws.{write-facts, read-facts, check-facts, assert-facts, variable-facts, ite-facts, formula-facts}
 use Rattle.model.proofs.StepLaws.{is_left_out, Holds, Follows, free-store, pair_is, assert-builds, enter-builds, PortsMean, port_is}
 use Rattle.model.proofs.StepFollows.{step_follows}
 use Rattle.model.proofs.EntryLaws.{held, holds_values, holds-enters, holds-stays}

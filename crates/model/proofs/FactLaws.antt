@@ -1,4 +1,4 @@
--- The table's facts and the tests of `Rows` are each other, row by row, each where the facts before it hold; and so what an accepted call knows, by name.
+-- The table's facts and the tests of `Rows` are each other, row by row, each where the facts before it hold.
 use mathlib.Core.Path.{◌≡◌, refl, sym, ◌∙◌}
 use mathlib.Core.Bool.{Bool, true, false, cond, not, ◌&&◌, true≢false}
 use mathlib.Core.Logic.{◌⊎◌, inl, inr}
@@ -24,8 +24,8 @@ use Rattle.semantics.specs.declared.Sizes.{Sizes}
 use Rattle.model.specs.Record.{Record, h_at, l_at, data_words, size, list_capacity, port_at}
 use Rattle.model.specs.Formula.{every_node}
 use Rattle.model.specs.Rows.{Row, first_row, users, legal_pairs, row1, row2, row3, ports_row, space_for, compared_rows, write_rows, read_rows, check_rows, assert_rows, evaluate_rows, variable_rows, ite_rows, formula_rows}
-use Rattle.model.specs.Step.{State, write, read, assert, check, evaluate, variable, ite, conditions, Call, access, node_call, upkeep, refusal, fresh_record, fresh_rows}
-use Rattle.model.specs.Table.{Fact, fact, InRange, Names, AllName, Listed, AllHoldNodes, NoneNeither, NoneUnknown, Space, store_facts, compared_facts, write_facts, read_facts, check_facts, assert_facts, evaluate_facts, variable_facts, ite_facts, EachArrow, formula_facts, facts, fresh_facts, AllHold, FirstFails, Slice, MemoryFacts, WriteFacts, ReadFacts, CheckFacts, AssertFacts, NodeFacts}
+use Rattle.model.specs.Step.{fresh_record, fresh_rows}
+use Rattle.model.specs.Table.{Fact, fact, InRange, Names, AllName, Listed, AllHoldNodes, NoneNeither, NoneUnknown, Space, compared_facts, write_facts, read_facts, check_facts, assert_facts, evaluate_facts, variable_facts, ite_facts, EachArrow, formula_facts, fresh_facts, AllHold, FirstFails, Slice, MemoryFacts}
 
 -- no row has the number 0
 abbrev pub numbered : List Row → Bool
@@ -42,7 +42,7 @@ pub record Tells (b : Bool) (P : Type 0) : Type 0 where
   pub so : P → b ≡ true
 
 -- rows and facts agree: place by place they have the same number, and the test tells the fact where the facts before it hold
-abbrev Agree : List Row → List Fact → Type 0
+abbrev pub Agree : List Row → List Fact → Type 0
 Agree [] [] = Unit {0}
 Agree [] (f ∷ fs) = ⊥
 Agree (t ∷ ts) [] = ⊥
@@ -230,7 +230,7 @@ module _ (r : Record) (w : List ℕ) where
   memory_agree : {A : Type 0} (l : List ℕ) → (Standard w r.count → A) → Beside 1 (row1 r w) (InRange r.sizes) (Beside 2 (row2 r w) (Standard w r.count) (Beside 3 (row3 r w l) (Listed r w l) A))
   memory_agree l f = store_agree (λ S. (refl, row3-tells l, λ T. f S))
 
-  write_agree : (l c a d : List ℕ) → Agree (write_rows r w l c a d) (write_facts r w l c a d)
+  pub write_agree : (l c a d : List ℕ) → Agree (write_rows r w l c a d) (write_facts r w l c a d)
   write_agree l c a d =
       memory_agree l
       (λ S. (
@@ -253,7 +253,7 @@ module _ (r : Record) (w : List ℕ) where
       each (λ p. every (λ i. is_user w r.count (get_or ps (port_at p + i) 0)) 0 (data_words r)) (λ p. (i : ℕ) → i < 2 * r.sizes.w → Names r w (get_or ps (p * 32 + i) 0)) 4
       (λ p l. each (λ i. is_user w r.count (get_or ps (port_at p + i) 0)) (λ i. Names r w (get_or ps (p * 32 + i) 0)) (2 * r.sizes.w) (λ i k. names (get_or ps (p * 32 + i) 0)))
 
-  read_agree : (l ps : List ℕ) (p : ℕ) (e a out : List ℕ) → Agree (read_rows r w l ps p e a out) (read_facts r w l ps p e a out)
+  pub read_agree : (l ps : List ℕ) (p : ℕ) (e a out : List ℕ) → Agree (read_rows r w l ps p e a out) (read_facts r w l ps p e a out)
   read_agree l ps p e a out =
       store_agree
       (λ S. (
@@ -287,19 +287,19 @@ module _ (r : Record) (w : List ℕ) where
         ),
       ))
 
-  check_agree : (l : List ℕ) (b : ℕ) (a d : List ℕ) → Agree (check_rows r w l b a d) (check_facts r w l b a d)
+  pub check_agree : (l : List ℕ) (b : ℕ) (a d : List ℕ) → Agree (check_rows r w l b a d) (check_facts r w l b a d)
   check_agree l b a d = compared_agree [] [] l b a d (λ S B A. tt)
 
-  assert_agree : (l : List ℕ) (b : ℕ) (a d : List ℕ) → Agree (assert_rows r w l b a d) (assert_facts r w l b a d)
+  pub assert_agree : (l : List ℕ) (b : ℕ) (a d : List ℕ) → Agree (assert_rows r w l b a d) (assert_facts r w l b a d)
   assert_agree l b a d = compared_agree ((7, every (λ i. not (together w b (h_at a i) (l_at a i))) 0 r.sizes.n) ∷ []) (fact 7 (NoneUnknown r w b a) ∷ []) l b a d (λ S B A. (refl, unknown-tells S b a B A, λ U. tt))
 
-  evaluate_agree : (f : ℕ) → Agree (evaluate_rows r w f) (evaluate_facts r w f)
+  pub evaluate_agree : (f : ℕ) → Agree (evaluate_rows r w f) (evaluate_facts r w f)
   evaluate_agree f = store_agree (λ S. (refl, under f r.count, λ F. tt))
 
-  variable_agree : (v : ℕ) → Agree (variable_rows r w v) (variable_facts r w v)
+  pub variable_agree : (v : ℕ) → Agree (variable_rows r w v) (variable_facts r w v)
   variable_agree v = store_agree (λ S. (refl, two (most 8 v) (most v 63), λ F. tt))
 
-  ite_agree : (f g h : ℕ) → Agree (ite_rows r w f g h) (ite_facts r w f g h)
+  pub ite_agree : (f g h : ℕ) → Agree (ite_rows r w f g h) (ite_facts r w f g h)
   ite_agree f g h = store_agree (λ S. (refl, three (names f) (names g) (names h), λ F. tt))
 
   arrows_tell : (t : Tree) → Tells (every_node (is_user w r.count) t) (EachArrow (Names r w) t)
@@ -309,107 +309,8 @@ module _ (r : Record) (w : List ℕ) where
   arrows_tell (when b t) = two (names b) (arrows_tell t)
   arrows_tell (grouped t) = arrows_tell t
 
-  formula_agree : (t : Tree) → Agree (formula_rows r w t) (formula_facts r w t)
+  pub formula_agree : (t : Tree) → Agree (formula_rows r w t) (formula_facts r w t)
   formula_agree t = store_agree (λ S. (refl, arrows_tell t, λ F. tt))
-
--- the refusal of a call's rows is what its facts say
-pub call-told : (c : Call) (s : State) → Told (refusal c s) (facts c s)
-call-told (access (write c a d)) s = told (write_rows s.rec s.words s.list c a d) _ refl (write_agree s.rec s.words s.list c a d)
-call-told (access (read p e a out)) s = told (read_rows s.rec s.words s.list s.ports p e a out) _ refl (read_agree s.rec s.words s.list s.ports p e a out)
-call-told (access (assert b a d)) s = told (assert_rows s.rec s.words s.list b a d) _ refl (assert_agree s.rec s.words s.list b a d)
-call-told (access (check b a d)) s = told (check_rows s.rec s.words s.list b a d) _ refl (check_agree s.rec s.words s.list b a d)
-call-told (node_call (evaluate f a)) s = told (evaluate_rows s.rec s.words f) _ refl (evaluate_agree s.rec s.words f)
-call-told (node_call (variable v)) s = told (variable_rows s.rec s.words v) _ refl (variable_agree s.rec s.words v)
-call-told (node_call (ite f g h)) s = told (ite_rows s.rec s.words f g h) _ refl (ite_agree s.rec s.words f g h)
-call-told (node_call (conditions t)) s = told (formula_rows s.rec s.words t) _ refl (formula_agree s.rec s.words t)
-call-told (upkeep c) s = absurd c
-
--- where no row refuses a call, its facts by name
-module _ (s : State) where
-  pub write-facts : (c a d : List ℕ) → refusal (access (write c a d)) s ≡ 0 → WriteFacts s c a d
-  write-facts c a d e =
-      let (one, rest) = (call-told (access (write c a d)) s).none e in
-      let (two, rest) = rest in
-      let (three, rest) = rest in
-      let (four, rest) = rest in
-      let (five, rest) = rest in
-      let six = rest.0 in
-      record {
-        memory = record { range = one; standard = two; listed = three };
-        enable = record { long = four.0; names = five.0; legal = six.0 };
-        address = record { long = four.1; names = five.1; legal = six.1 };
-        word = record { long = four.2; names = five.2; legal = six.2 };
-      }
-
-  pub read-facts : (p : ℕ) (e a out : List ℕ) → refusal (access (read p e a out)) s ≡ 0 → ReadFacts s p e a out
-  read-facts p e a out z =
-      let (one, rest) = (call-told (access (read p e a out)) s).none z in
-      let (two, rest) = rest in
-      let (three, rest) = rest in
-      let (four, rest) = rest in
-      let (fourteen, rest) = rest in
-      let (five, rest) = rest in
-      let (six, rest) = rest in
-      record {
-        memory = record { range = one; standard = two; listed = three.0 };
-        ports = three.1;
-        port = fourteen;
-        enable = record { long = four.0; names = five.0; legal = six.0 };
-        address = record { long = four.1; names = five.1; legal = six.1 };
-        answer-long = four.2;
-      }
-
-  compared-facts : (b : ℕ) (a d : List ℕ) (fs : List Fact) → AllHold (compared_facts s.rec s.words s.list b a d fs) → CheckFacts s b a d × AllHold fs
-  compared-facts b a d fs H =
-      let (one, rest) = H in
-      let (two, rest) = rest in
-      let (three, rest) = rest in
-      let (four, rest) = rest in
-      let (five, rest) = rest in
-      let (six, rest) = rest in (
-        record {
-          memory = record { range = one; standard = two; listed = three };
-          control = five.0;
-          address = record { long = four.0; names = five.1; legal = six.0 };
-          word = record { long = four.1; names = five.2; legal = six.1 };
-        },
-        rest,
-      )
-
-  pub check-facts : (b : ℕ) (a d : List ℕ) → refusal (access (check b a d)) s ≡ 0 → CheckFacts s b a d
-  check-facts b a d e = (compared-facts b a d [] ((call-told (access (check b a d)) s).none e)).0
-
-  pub assert-facts : (b : ℕ) (a d : List ℕ) → refusal (access (assert b a d)) s ≡ 0 → AssertFacts s b a d
-  assert-facts b a d e =
-      let C = compared-facts b a d (fact 7 (NoneUnknown s.rec s.words b a) ∷ []) ((call-told (access (assert b a d)) s).none e) in
-      record { compared = C.0; known = C.1.0 }
-
-  node-facts : (P : Type 0) → AllHold (store_facts s.rec s.words (fact 5 P ∷ [])) → NodeFacts s P
-  node-facts P H = record { range = H.0; standard = H.1.0; named = H.1.1.0 }
-
-  pub evaluate-facts : (f a : ℕ) → refusal (node_call (evaluate f a)) s ≡ 0 → NodeFacts s (f < s.rec.count)
-  evaluate-facts f a e = node-facts _ ((call-told (node_call (evaluate f a)) s).none e)
-
-  pub variable-facts : (v : ℕ) → refusal (node_call (variable v)) s ≡ 0 → NodeFacts s ((8 ≤ v) × (v ≤ 63))
-  variable-facts v e = node-facts _ ((call-told (node_call (variable v)) s).none e)
-
-  pub ite-facts : (f g h : ℕ) → refusal (node_call (ite f g h)) s ≡ 0 → NodeFacts s (Names s.rec s.words f × Names s.rec s.words g × Names s.rec s.words h)
-  ite-facts f g h e = node-facts _ ((call-told (node_call (ite f g h)) s).none e)
-
-  pub formula-facts : (t : Tree) → refusal (node_call (conditions t)) s ≡ 0 → NodeFacts s (EachArrow (Names s.rec s.words) t)
-  formula-facts t e = node-facts _ ((call-told (node_call (conditions t)) s).none e)
-
--- every call that no row refuses is lent a standard store
-pub call-standard : (c : Call) (s : State) → refusal c s ≡ 0 → Standard s.words s.rec.count
-call-standard (access (write c a d)) s e = (write-facts s c a d e).memory.standard
-call-standard (access (read p c a out)) s e = (read-facts s p c a out e).memory.standard
-call-standard (access (assert b a d)) s e = (assert-facts s b a d e).compared.memory.standard
-call-standard (access (check b a d)) s e = (check-facts s b a d e).memory.standard
-call-standard (node_call (evaluate f a)) s e = (evaluate-facts s f a e).standard
-call-standard (node_call (variable v)) s e = (variable-facts s v e).standard
-call-standard (node_call (ite f g h)) s e = (ite-facts s f g h e).standard
-call-standard (node_call (conditions t)) s e = (formula-facts s t e).standard
-call-standard (upkeep c) s e = absurd c
 
 -- Fresh
 pub fresh-told : (z : Sizes) (ws : List ℕ) → Told (fresh_rows z ws) (fresh_facts z ws)

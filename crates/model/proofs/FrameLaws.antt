@@ -20,11 +20,12 @@ use Rattle.model.specs.Access.{Write, Read, Check}
 use Rattle.model.specs.Rows.{Row, first_row, users, row1, write_rows, read_rows, assert_rows, check_rows, evaluate_rows, variable_rows, ite_rows, formula_rows, ports_row}
 use Rattle.model.specs.Step.{State, with_words, write, read, assert, check, evaluate, variable, ite, conditions, Call, access, node_call, upkeep, Given, idle, filled, entered, kept, accepted, node, triples, refused, done, is_refused, Filling, fills, fills_none, filling, Result, refusal, turned_down, Finish, full, short, gives, closed, unless_full, begin, grown, with_entry, with_assert_condition, assert_first, finish_access, finish_node, finish, turned_down_by, step, run, fresh, fresh_rows, fresh_unless, fresh_record, with_held, is_upkeep, Answer, answer_words, filled_over}
 use Rattle.model.specs.Claims.{pairs}
-use Rattle.model.specs.Frames.{clears, words_after, RefusalLeaves, RefusalNumber, Extended, SuccessLeaves, Valid, StaysValid, NoRow123, FreshLeaves, FreshValid, FreshNoRow123, numbers, PortsLeft, PortsValid, PortsStayValid, fresh_state, held_by, sees_ports, SameSizes, SizesStay, AnswersLeft}
+use Rattle.model.specs.Frames.{clears, words_after, RefusalLeaves, RefusalNumber, Extended, SuccessLeaves, Valid, StaysValid, NoRow123, FreshLeaves, FreshValid, FreshNoRow123, numbers, PortsLeft, PortsValid, PortsStayValid, fresh_state, held_by, sees_ports, SameSizes, SizesStay}
 use Rattle.model.proofs.MeansLaws.{Means, user-means}
 use Rattle.model.proofs.AccessLaws.{write-means}
 use Rattle.model.proofs.FormulaLaws.{formula-builds}
-use Rattle.model.proofs.FactLaws.{row1-tells, names, users_tell, space-room, write-facts, read-facts, check-facts, assert-facts, variable-facts, ite-facts, formula-facts, fresh-told}
+use Rattle.model.proofs.FactLaws.{row1-tells, names, users_tell, space-room, fresh-told}
+use Rattle.model.proofs.CallFactLaws.{write-facts, read-facts, check-facts, assert-facts, variable-facts, ite-facts, formula-facts}
 use Rattle.model.proofs.FinishProgram.{of-program}
 use Rattle.model.proofs.FinishLaws.{of-write, of-assert}
 use Rattle.model.proofs.RowLaws.{length_pairs, names_halves}
@@ -388,7 +389,7 @@ module _ (p : ℕ) (e a out : List ℕ) (s : State) where
   filled-below f = subst Below f read_below
 
   -- its answer words are as many as it was lent
-  read-long : length (answer_words (step (access (read p e a out)) s).answer out) ≡ length out
+  pub read-long : length (answer_words (step (access (read p e a out)) s).answer out) ≡ length out
   unfolding step
   read-long = go (refusal (access (read p e a out)) s) refl
     where
@@ -399,7 +400,3 @@ module _ (p : ℕ) (e a out : List ℕ) (s : State) where
       go : (k : ℕ) → refusal (access (read p e a out)) s ≡ k → length (answer_words (turned_down_by k s (closed s (finish (access (read p e a out)) s))).answer out) ≡ length out
       go zero z = filled-long (filling (closed s (finish (access (read p e a out)) s)).answer) _ (closed s (finish (access (read p e a out)) s)).after.rec.count (read_acts z) (read-facts s p e a out z).answer-long
       go (suc k) z = refl
-
-pub answers-left : AnswersLeft
-unfolding AnswersLeft
-answers-left p e a out s = record { refuses = λ k q i. ap (λ (x : Answer). get_or (answer_words x out) i 0) q; len = read-long p e a out s }

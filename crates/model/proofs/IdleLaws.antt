@@ -10,7 +10,7 @@ use Rattle.model.specs.Frames.{IdleLeaves}
 use Rattle.model.specs.Table.{WriteFacts, NeverOne, MayBeOne, IdleExactly}
 use Rattle.model.specs.Meanings.{KeptWhereNever}
 use Rattle.model.proofs.TerminalLaws.{node_0-alone, somewhere_true, idle_zero, other_not_zero}
-use Rattle.model.proofs.FactLaws.{write-facts}
+use Rattle.model.proofs.CallFactLaws.{write-facts}
 use Rattle.model.proofs.FinishProgram.{of-program}
 use Rattle.model.proofs.FinishLaws.{of-write, of-assert}
 use Rattle.model.proofs.StepLaws.{is_left_out}

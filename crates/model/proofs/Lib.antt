@@ -1,11 +1,13 @@
 pub mod MeansLaws
 pub mod HalfLaws
 pub mod AccessLaws
+pub mod ReadMeansLaws
 pub mod ListLaws
 pub mod PortLaws
 pub mod TerminalLaws
 pub mod TerminalIdle
 pub mod FactLaws
+pub mod CallFactLaws
 pub mod RowLaws
 pub mod FinishProgram
 pub mod FinishLaws
@@ -18,6 +20,7 @@ pub mod ProgramLaws
 pub mod Demand2
 pub mod ValidLaws
 pub mod FrameLaws
+pub mod AnswersLeftLaws
 pub mod Demand3
 pub mod IdleLaws
 pub mod SomeLaws
@@ -26,6 +29,7 @@ pub mod AgreeLaws
 pub mod CountLaws
 pub mod CountFresh
 pub mod BudgetLaws
+pub mod RunBudgetLaws
 pub mod ChainLaws
 pub mod RulingLaws
 pub mod StayLaws

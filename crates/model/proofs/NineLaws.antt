@@ -19,7 +19,7 @@ use Rattle.model.specs.Rows.{space_for}
 use Rattle.model.specs.Step.{State, write, read, assert, check, evaluate, variable, ite, conditions, Call, access, node_call, upkeep, Given, valued, is_refused, refused, refusal, Finish, full, short, gives, closed, unless_full, begin, grown, with_entry, with_check_condition, assert_first, enter, is_idle, finish_write, finish_access, finish_node, finish, turned_down_by, step, with_held}
 use Rattle.model.specs.Frames.{late_row, NineAtCapacity}
 use Rattle.model.specs.Table.{with_more, InMore, NineOf, NineExactly}
-use Rattle.model.proofs.FactLaws.{call-standard, call-told}
+use Rattle.model.proofs.CallFactLaws.{call-standard, call-told}
 use Rattle.model.proofs.FinishProgram.{of-program}
 use Rattle.model.proofs.FinishLaws.{of-write, of-assert}
 use Rattle.model.proofs.FrameLaws.{plain, rows-plain}

@@ -19,7 +19,8 @@ use Rattle.model.specs.Meanings.{entry_values, port_value}
 use Rattle.model.specs.Table.{AllHoldNodes, WriteFacts, ReadFacts, CheckFacts}
 use Rattle.model.proofs.MeansLaws.{Means, means_as, user-means}
 use Rattle.model.proofs.PortLaws.{held_at, half_at}
-use Rattle.model.proofs.AccessLaws.{MarksMean, write-means, Halves, Word, read-means, check-means, AssertBuiltMean, assert-means}
+use Rattle.model.proofs.AccessLaws.{MarksMean, write-means, Halves, Word, check-means, AssertBuiltMean, assert-means}
+use Rattle.model.proofs.ReadMeansLaws.{read-means}
 use Rattle.model.proofs.RowLaws.{length_pairs, name-means, names_halves}
 use Rattle.model.proofs.FactLaws.{names, users_tell}
 use Rattle.model.proofs.EntryLaws.{holds_values}

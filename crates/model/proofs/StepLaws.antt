@@ -34,14 +34,16 @@ use Rattle.semantics.proofs.PairLaws.{eq→T}
 use Rattle.semantics.proofs.KeptLaws.{SameHeld, same_after, same-idle, same_kept}
 use Rattle.model.proofs.MeansLaws.{Means, means_as, up, near_self, ite-means, variable-means}
 use Rattle.model.proofs.HalfLaws.{half_even, half_odd}
-use Rattle.model.proofs.AccessLaws.{Halves, EntryMeans, no_entry, EntriesMean, up_halves, up-entries, MarksMean, write-means, Word, read-means, check-means, AssertBuiltMean, assert-means}
+use Rattle.model.proofs.AccessLaws.{Halves, EntryMeans, no_entry, EntriesMean, up_halves, up-entries, MarksMean, write-means, Word, check-means, AssertBuiltMean, assert-means}
+use Rattle.model.proofs.ReadMeansLaws.{read-means}
 use Rattle.model.proofs.PortLaws.{held_at, replaced-length, replaced_in, replaced_other, half_at}
 use Rattle.model.proofs.ListLaws.{new-address, new_data, entry_old, entry_new}
 use Rattle.model.proofs.TerminalIdle.{idle_off}
 use Rattle.model.proofs.FormulaLaws.{formula-builds}
 use Rattle.model.proofs.FinishProgram.{of-program}
 use Rattle.model.proofs.FinishLaws.{of-write, of-assert}
-use Rattle.model.proofs.FactLaws.{space-room, write-facts, read-facts, check-facts, assert-facts, variable-facts, ite-facts, formula-facts}
+use Rattle.model.proofs.FactLaws.{space-room}
+use Rattle.model.proofs.CallFactLaws.{write-facts, read-facts, check-facts, assert-facts, variable-facts, ite-facts, formula-facts}
 use Rattle.model.proofs.RowLaws.{length_pairs, name-means, names_halves, pair-legal, pairs-legal, pairs-unique}
 
 -- the list leaves out an idle write, and an assert that is kept

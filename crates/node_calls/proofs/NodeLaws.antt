@@ -11,7 +11,8 @@ use Rattle.semantics.specs.declared.Sizes.{Sizes}
 use Rattle.model.specs.Record as model
 use Rattle.model.specs.Rows.{Row, first_row, row1, row2, variable_rows, ite_rows, evaluate_rows}
 use Rattle.model.specs.Step.{State, accepted, done, fresh_record, fresh_rows, fresh_unless, fresh}
-use Rattle.model.proofs.FactLaws.{names, evaluate-facts, variable-facts, ite-facts, fresh-told}
+use Rattle.model.proofs.FactLaws.{names, fresh-told}
+use Rattle.model.proofs.CallFactLaws.{evaluate-facts, variable-facts, ite-facts}
 use Rattle.rows.specs.Contract.{state_of}
 use Rattle.rows.proofs.CallLaws.{first-refuses, store-holds}
 use Rattle.node_calls.specs.Contract.{numbered, freshed}

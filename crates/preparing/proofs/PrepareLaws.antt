@@ -22,7 +22,7 @@ use Rattle.model.specs.Formula.{Triple, Triples}
 use Rattle.model.specs.Step.{conditions, node_call, triples, refused, done, Result, begin, step, finish_node, closed}
 use Rattle.model.specs.Frames.{Valid, StaysValid}
 use Rattle.model.specs.Table.{Names, EachArrow}
-use Rattle.model.proofs.FactLaws.{call-told}
+use Rattle.model.proofs.CallFactLaws.{call-told}
 use Rattle.semantics.proofs.PairLaws.{T→eq}
 use Rattle.model.proofs.FrameLaws.{stays-valid}
 use Rattle.model.proofs.FormulaLaws.{each_arrow, formula-builds}

@@ -15,7 +15,7 @@ use Rattle.model.specs.Access as built
 use Rattle.model.specs.Rows.{first_row, users, legal_pairs, read_rows, Row, row1, row2, row3, ports_row, memory_rows}
 use Rattle.model.specs.Step.{State, filled, answer_words, begin, Result, done}
 use Rattle.model.specs.Frames.{Valid, PortsValid}
-use Rattle.model.proofs.FactLaws.{read-facts}
+use Rattle.model.proofs.CallFactLaws.{read-facts}
 use Rattle.model.proofs.ProgramLaws.{read-program}
 use Rattle.building.specs.Contract.{shape, Looks, Nodes}
 use Rattle.model.specs.declared.Fields.{Fields}

@@ -21,7 +21,8 @@ use Rattle.model.specs.Step.{State, with_words, Access, NodeCall, Call, access, 
 use Rattle.model.specs.Chain.{Answered, AnswersNode}
 use Rattle.model.specs.Frames.{Valid}
 use Rattle.model.specs.Table.{Slice, MemoryFacts}
-use Rattle.model.proofs.FactLaws.{row1-tells, check-facts}
+use Rattle.model.proofs.FactLaws.{row1-tells}
+use Rattle.model.proofs.CallFactLaws.{check-facts}
 use Rattle.building.specs.Contract.{Nodes, Looks}
 use Rattle.rows.specs.Contract.{state_of, unless_refused, Answers, AnswersOn, argument_rows, cleared_where}
 

@@ -15,7 +15,7 @@ use Rattle.model.specs.Record.{address_words, data_words}
 use Rattle.model.specs.Rows.{first_row, write_rows}
 use Rattle.model.specs.Step.{State, write, place, idle, begin, is_idle, closed, finish_write, finish_access, write_built}
 use Rattle.model.specs.Frames.{Valid}
-use Rattle.model.proofs.FactLaws.{write-facts}
+use Rattle.model.proofs.CallFactLaws.{write-facts}
 use Rattle.model.proofs.ProgramLaws.{write-program}
 use Rattle.model.specs.declared.Fields.{Fields}
 use Rattle.rows.specs.Contract.{state_of, unless_refused, argument_rows, Answers, AnswersOn}
