@@ -18,7 +18,7 @@ use Rattle.format.specs.Sections.{Sections, first_record, sections}
 use Rattle.format.proofs.SectionLaws.{sections-valid, sections-ports-valid}
 use Rattle.reading.specs.Contract.{sections_of}
 use Rattle.reading.proofs.FindLaws.{sections-ready}
-use Rattle.conditions.proofs.ContractLaws.{zeros-sound}
+use Rattle.conditions.proofs.Promises.{zeros-sound}
 use Rattle.cases.proofs.LastLaws.{last-left, last-printed}
 use Rattle.case_entries.specs.declared.Run.{Run}
 use Rattle.case_entries.specs.declared.Step.{Step}

@@ -2,7 +2,7 @@ use Rattle.rows.proofs.CallLaws.{memory-turned, lengths-turned, memory-valid, va
 use Rattle.rows.specs.Contract.{state_of}
 use Rattle.model.specs.Step.{assert}
 use Rattle.model.specs.Rows.{assert_rows}
-use Rattle.conditions.proofs.ContractLaws.{zeros-sound}
+use Rattle.conditions.proofs.Promises.{zeros-sound}
 use Rattle.nodes.proofs.BoolLaws.{and_both}
 use borrow.Author.Tests.{eqb-true, not-true, not-false}
 use lib.ListN.{length, drop}

@@ -5,7 +5,7 @@ use lib.Dec.{eqb}
 use lib.ListN.{length, drop}
 use borrow.Author.Tests.{eqb-true, not-true, not-false}
 use Rattle.nodes.proofs.BoolLaws.{and_both}
-use Rattle.conditions.proofs.ContractLaws.{zeros-sound}
+use Rattle.conditions.proofs.Promises.{zeros-sound}
 use Rattle.model.specs.Rows.{check_rows}
 use Rattle.model.specs.Step.{check}
 use Rattle.rows.specs.Contract.{state_of}

@@ -1,6 +1,5 @@
 use Rattle.std.proofs.Common.{sym, ◌∙◌}
-use Rattle.conditions.proofs.Promises.{standard_is}
-use Rattle.conditions.proofs.ContractLaws.{zeros-sound}
+use Rattle.conditions.proofs.Promises.{standard_is, zeros-sound}
 use Rattle.conditions_test.proofs.begin.Goals as goal
 
 pub run-requires : goal.run-requires

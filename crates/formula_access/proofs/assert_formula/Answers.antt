@@ -1,5 +1,5 @@
 use native.Mathlib.Omega.{arith}
-use Rattle.conditions.proofs.ContractLaws.{zeros-sound}
+use Rattle.conditions.proofs.Promises.{zeros-sound}
 use Rattle.formula_calls.specs.Call.{asserting}
 use Rattle.rows.specs.Contract.{state_of}
 use Rattle.rows.proofs.CallLaws.{valid-standard}

@@ -1,8 +1,7 @@
 use Rattle.node_calls.proofs.NodeLaws.{ite-holds}
 use Rattle.rows.proofs.CallLaws.{node-turned, node_acted, nine_acts, done_acts}
 use Rattle.rows.specs.Contract.{state_of}
-use Rattle.conditions.proofs.ContractLaws.{zeros-sound}
-use Rattle.conditions.proofs.Promises.{builds_clear, ite-builds, user_is, user_stands}
+use Rattle.conditions.proofs.Promises.{zeros-sound, builds_clear, ite-builds, user_is, user_stands}
 use Rattle.model.specs.Step.{ite, closed, finish_node}
 use native.Mathlib.Omega.{arith}
 use mathlib.Core.Path.{◌∙◌}

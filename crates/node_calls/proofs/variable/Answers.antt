@@ -1,8 +1,7 @@
 use Rattle.node_calls.proofs.NodeLaws.{variable-holds}
 use Rattle.rows.proofs.CallLaws.{node-turned, node_acted, nine_acts, done_acts}
 use Rattle.rows.specs.Contract.{state_of}
-use Rattle.conditions.proofs.ContractLaws.{zeros-sound}
-use Rattle.conditions.proofs.Promises.{builds_clear, variable-builds}
+use Rattle.conditions.proofs.Promises.{zeros-sound, builds_clear, variable-builds}
 use Rattle.model.specs.Step.{variable, closed, finish_node}
 use native.Mathlib.Omega.{arith}
 use mathlib.Core.Path.{◌∙◌}

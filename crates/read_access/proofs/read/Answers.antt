@@ -3,7 +3,7 @@ use Rattle.rows.specs.Contract.{ported_of}
 use Rattle.model.proofs.FactLaws.{and3}
 use Rattle.model.specs.Step.{read, accepted}
 use Rattle.model.specs.Frames.{PortsValid}
-use Rattle.conditions.proofs.ContractLaws.{zeros-sound}
+use Rattle.conditions.proofs.Promises.{zeros-sound}
 use borrow.Author.Tests.{eqb-true, not-true, not-false}
 use native.Mathlib.Omega.{arith}
 use lib.ListN.{length}

@@ -4,7 +4,7 @@ use Prim.Native.Nat.{◌*◌}
 use lib.Dec.{eqb}
 use lib.ListN.{length, drop}
 use borrow.Author.Tests.{eqb-true, not-true, not-false}
-use Rattle.conditions.proofs.ContractLaws.{zeros-sound}
+use Rattle.conditions.proofs.Promises.{zeros-sound}
 use Rattle.model.specs.Rows.{write_rows}
 use Rattle.model.specs.Step.{write}
 use Rattle.model.proofs.FactLaws.{and3}
