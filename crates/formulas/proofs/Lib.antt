@@ -12,4 +12,5 @@ pub mod FirstLaws
 pub mod ReadingLaws
 pub mod DepthLaws
 pub mod PlaceLaws
+pub mod RefusedLaws
 pub mod ClaimLaws

@@ -5,6 +5,7 @@ pub mod IteLaws
 pub mod AgainLaws
 pub mod AnyLaws
 pub mod LongerLaws
+pub mod CasesLaws
 pub mod FullLaws
 pub mod UserLaws
 pub mod OrderLaws

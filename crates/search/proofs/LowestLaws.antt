@@ -15,7 +15,8 @@ use Rattle.nodes.proofs.GrowthLaws.{inner}
 use Rattle.search.specs.declared.Found.TheVariants.{At, Nowhere}
 use Rattle.search.specs.Search.{Search}
 use Rattle.search.specs.Told.{Ends, found_below}
-use Rattle.search.proofs.SearchLaws.{ends-once, search-told}
+use Rattle.search.proofs.EndsLaws.{ends-once}
+use Rattle.search.proofs.ToldLaws.{search-told}
 
 module _ (w : List ℕ) (c v lo hi : ℕ) where
   pub lowest_has : lowest w c v lo hi < c → Has w v lo hi (lowest w c v lo hi)
