@@ -23,7 +23,7 @@ import wrongswings
 from common.casefile import ONE, X, ZERO, CaseFile
 from common.diagrams import FALSE, TRUE, Diagrams, NotACondition, TooLarge
 from common.randomcases import Random
-from language import casetext, traces
+from language import casetext
 from papers import ASSERT, CHECK, READ, TEXT_BYTES
 from planting import planted
 from randompairs import assignments, pair_value, text_value
@@ -543,19 +543,6 @@ class Commands(Files):
             *said, wrong + ": swings",
             "  access 3 (read), bit 0, under every assignment: 1 in the first and 0 in the second"])
 
-    def test_traces(self):
-        """Two traces, and a trace beside the text of its sharper case; accesses have the lines of the traces."""
-        table = "# memory n=1 w=2\ntime,re,raddr,we,waddr,wdata\n0,,,1,d,%s\n10,1,0,we,%s,01\n"
-        first, second = self.put("a.csv", table % ("1x", "x")), self.put("b.csv", "# sharper\n" + table % ("11", "1"))
-        said = ["access 1 (write, lines 3 and 4), data bit 0: X becomes 1 under every assignment",
-                "access 3 (write, lines 4 and 5), address bit 0: X becomes 1 under every assignment",
-                "the second is a sharpening of the first under every assignment"]
-        self.expect([first, second, "--run", REFERENCE], 0, [
-            *said, REFERENCE + ": order kept, reads and checks: 1, sharper in the second: 1"])
-        text = self.put("b.txt", traces.text_of((table % ("11", "1")).encode("ascii")))
-        self.assertEqual(self.tool("sharpening.py", first, text)[0], 0)
-        self.assertEqual(self.tool("sharpening.py", second, first)[0], 3)
-
     def test_no_claim(self):
         first = self.put("a.txt", "memory n=1 w=1\nassert b=1 address=X data=1\n")
         second = self.put("b.txt", "memory n=1 w=1\nassert b=1 address=0 data=1\n")
@@ -616,15 +603,12 @@ class MisuseTest(Files):
     def test_files(self):
         right = self.put("a.txt", "memory n=1 w=1\n")
         self.put("empty.txt", b"")
-        self.put("a.csv", "# memory n=1 w=1\nkind,address,data\nwrite,0,\n")
         os.mkdir(self.path("folder.txt"))
         for name, message in (
                 ("none.txt", "cannot read none.txt: No such file or directory"),
                 ("folder.txt", "cannot read folder.txt: Is a directory"),
-                ("a", "a: name it .txt, for a text of casetext.py, .csv, for a trace, or .case, for a case file"),
-                ("empty.txt", "empty.txt is no text of a case: the text has no `memory` line"),
-                ("a.csv", "a.csv is no text of a case: line 3, column data: the cell is empty, and a write needs it"),
-                ("none.csv", "cannot read none.csv: No such file or directory")):
+                ("a", "a: name it .txt, for a text of casetext.py, or .case, for a case file"),
+                ("empty.txt", "empty.txt is no text of a case: the text has no `memory` line")):
             with self.subTest(name):
                 self.expect_misuse(message, right, self.path(name))
                 self.expect_misuse(message, self.path(name), right)
@@ -734,18 +718,6 @@ class Making(Files):
             changed = [new for old, new in lines if old != new]
             self.assertEqual(len(changed), len(one.known))
             self.assertTrue(all(line.endswith("    # sharper") for line in changed))
-
-    def test_trace(self):
-        """The sharper cases of a trace are those of its text, written as texts."""
-        status, out, errors = self.tool("sharper.py", "examples/regfile.csv", self.path("made"), "--count", "3")
-        self.assertEqual((status, errors), (0, ""))
-        case = case_of(traces.text_of(read("examples/regfile.csv").encode("utf-8")))
-        made = sharpercases.sharper_cases(case, 3)
-        self.assertEqual([line.split(": ")[1] for line in out.splitlines()], [sharpercases.words(one) for one in made])
-        for number, one in enumerate(made, 1):
-            text = self.path("made/regfile-sharper-%d.txt" % number)
-            self.assertEqual(casetext.encode(read(text)), one.case.bytes())
-            self.assertEqual(self.tool("sharpening.py", "examples/regfile.csv", text)[0], 0)
 
     def test_case_file(self):
         path = self.put("a.case", casetext.encode("memory n=1 w=1\nread enable=1 address=X\n"))

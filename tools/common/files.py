@@ -6,22 +6,22 @@ from common.endings import standard_input
 from common.simulatorruns import Misuse, read_at_most
 
 # The largest case file has 7,000,000 bytes.
-FILE_BYTES = 1 << 24
+INPUT_BYTES = 1 << 24
 TOO_LONG = ": no case and no text of one is"
 
 
 def read_bytes(path):
     """The bytes of a case or of a text of one."""
-    return read_at_most(path, FILE_BYTES, TOO_LONG)
+    return read_at_most(path, INPUT_BYTES, TOO_LONG)
 
 
 def read_input(name):
     """The same of a file, or of standard input, which `-` stands for."""
     if name != "-":
         return read_bytes(name)
-    data = standard_input(FILE_BYTES + 1)
-    if len(data) > FILE_BYTES:
-        raise Misuse("standard input is longer than %d bytes%s" % (FILE_BYTES, TOO_LONG))
+    data = standard_input(INPUT_BYTES + 1)
+    if len(data) > INPUT_BYTES:
+        raise Misuse("standard input is longer than %d bytes%s" % (INPUT_BYTES, TOO_LONG))
     return data
 
 
