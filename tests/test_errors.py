@@ -462,15 +462,6 @@ class Arbiter(Folder):
         for first, second in (("cat", "yes"), ("./escapes", "./long-line"), ("./complains", "./killed")):
             self.expect("1 case", self.cases, first, second, statuses=(1,))
 
-    @unittest.skipUnless(os.path.exists("/dev/full"), "there is no /dev/full")
-    def test_files_that_cannot_be_written(self):
-        """The file is named, and what was found is printed all the same."""
-        for option in ("--json", "--html"):
-            done = run("arbiter", self.cases, self.reference, "--memcase", self.reference, option, "/dev/full")
-            self.assertEqual((done.status, done.errors), (
-                2, b"arbiter: cannot write /dev/full: No space left on device\n"))
-            self.assertTrue(done.out.startswith(b"1 case (1 accepted, 0 refused)\n"), done.out)
-
     def test_stray_files(self):
         """Files that are no case do not end the run."""
         for name, (data, _) in FILES.items():

@@ -748,12 +748,12 @@ class Arbitration(Files):
         self.put("b.txt", "memory n=1 w=1\nassert b=1 address=X data=1\n")
         self.put("c.txt", "memory n=1 w=1\nread enable=1 address=0\ncheck b=2 address=X data=1\n")
         self.put("d.case", b"\1")
-        right, outcomes = SIMULATOR + "right", "1 accepted, 3 refused: 1 by row 5, 1 by row 7, 1 by row 10"
+        right = SIMULATOR + "right"
         status, lines = self.arbitrate(right, right, "--sharpen", "5")
         self.assertEqual((status, lines), (0, [
-            "4 cases (%s)" % outcomes,
-            "first: agreed 4 (%s), differs 0, hung 0, crashed 0" % outcomes,
-            "second: agreed 4 (%s), differs 0, hung 0, crashed 0" % outcomes,
+            "4 cases",
+            "first: agreed 4, differs 0, hung 0, crashed 0",
+            "second: agreed 4, differs 0, hung 0, crashed 0",
             "4 sharper cases of 2 cases",
             "first: order kept in 2 pairs, swings in 0, no claim in 2, failed in 0",
             "second: order kept in 2 pairs, swings in 0, no claim in 2, failed in 0"]))
@@ -765,7 +765,7 @@ class Arbitration(Files):
                           "read enable=1 address=0\n")
         status, lines = self.arbitrate(SIMULATOR + "right", SIMULATOR + "idle-forgets", "--sharpen", "5")
         self.assertEqual((status, lines), (1, [
-            "1 case (1 accepted, 0 refused)",
+            "1 case",
             "first: agreed 1, differs 0, hung 0, crashed 0",
             "second: agreed 1, differs 0, hung 0, crashed 0",
             "2 sharper cases of 1 case",
@@ -792,7 +792,7 @@ class Arbitration(Files):
         self.put("a.txt", "memory n=1 w=1\nwrite enable=X address=0 data=1\nread enable=1 address=0\n")
         status, lines = self.arbitrate(SIMULATOR + "ends-with-status", SIMULATOR + "ends-where-idle", "--sharpen", "5")
         self.assertEqual((status, lines), (1, [
-            "1 case (1 accepted, 0 refused)",
+            "1 case",
             "first: agreed 0, differs 0, hung 0, crashed 1",
             "second: agreed 1, differs 0, hung 0, crashed 0",
             "2 sharper cases of 1 case",

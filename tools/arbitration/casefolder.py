@@ -3,11 +3,12 @@
 import os
 from collections import namedtuple
 
-from common.files import INPUT_BYTES, TOO_LONG
 from common.simulatorruns import AllEnded, Misuse, all_ended, escaped
 from language import casetext, traces
 from language.words import not_utf8
 
+# The largest case file has 7,000,000 bytes.
+INPUT_BYTES = 1 << 24
 SHOWN_MISTAKE = 240
 
 # Case files, texts and traces.
@@ -66,7 +67,7 @@ def read_bytes(path):
     except OSError as error:
         raise Misuse("cannot be read: %s" % error.strerror) from None
     if len(data) > INPUT_BYTES:
-        raise Misuse("is longer than %d bytes%s" % (INPUT_BYTES, TOO_LONG))
+        raise Misuse("is longer than %d bytes: no case and no text of one is" % INPUT_BYTES)
     return data
 
 
