@@ -102,9 +102,9 @@ class Verdicts(Folders):
         self.put_stored("row-01-n9-w1", "limit-nodes-words-49151")
         self.put("notes", b"")
         self.expect(0, [
-            "4 cases (2 accepted, 2 refused: 1 by row 1, 1 by row 10)",
-            "first: agreed 4 (2 accepted, 2 refused: 1 by row 1, 1 by row 10), differs 0, hung 0, crashed 0",
-            "second: agreed 4 (2 accepted, 2 refused: 1 by row 1, 1 by row 10), differs 0, hung 0, crashed 0",
+            "4 cases",
+            "first: agreed 4, differs 0, hung 0, crashed 0",
+            "second: agreed 4, differs 0, hung 0, crashed 0",
             "",
             "left out: 1 file not named .case, .txt or .csv",
         ], simulator("right"), simulator("complains"))
@@ -112,19 +112,19 @@ class Verdicts(Folders):
     def test_all_rows(self):
         self.put("inner/worked.txt", open_text("examples/worked.txt"))
         self.expect(0, [
-            "2 cases (2 accepted, 0 refused)",
+            "2 cases",
             "A: agreed 2, differs 0, hung 0, crashed 0",
             "second one: agreed 2, differs 0, hung 0, crashed 0",
             "",
-            "case              memcase   A       second one",
-            "inner/worked.txt  accepted  agreed  agreed",
-            "worked.case       accepted  agreed  agreed",
+            "case              A        second one",
+            "inner/worked.txt  agreed   agreed",
+            "worked.case       agreed   agreed",
         ], simulator("right"), simulator("right"), "--all", "--names", "A", "second one")
 
     def test_differs(self):
         self.put_stored("ruling-01", "ruling-02")
         self.expect(1, [
-            "3 cases (3 accepted, 0 refused)",
+            "3 cases",
             "first: agreed 3, differs 0, hung 0, crashed 0",
             "second: agreed 2, differs 1 (sharper 1), hung 0, crashed 0",
             "",
@@ -134,8 +134,8 @@ class Verdicts(Folders):
             "    memcase  read 1:1",
             "    second   read 1:0",
             "",
-            "case            memcase   first   second",
-            "ruling-01.case  accepted  agreed  differs",
+            "case            first    second",
+            "ruling-01.case  agreed   differs",
             "  second differs, sharper: output line 1, byte 8",
             "    memcase  read 1:1",
             "    second   read 1:0",
@@ -146,7 +146,7 @@ class Verdicts(Folders):
         self.put_stored("ruling-01")
         for names, name in (([], "first"), (["--names", "Only"], "Only")):
             self.expect(1, [
-                "2 cases (2 accepted, 0 refused)",
+                "2 cases",
                 name + ": agreed 1, differs 1 (sharper 1), hung 0, crashed 0",
                 "",
                 name + " differs, sharper, read: 1 case",
@@ -161,7 +161,7 @@ class Verdicts(Folders):
         smallest case."""
         self.put_stored("ports-apart", "ports-kept", "ruling-10", "ruling-10-last")
         self.expect(1, [
-            "5 cases (5 accepted, 0 refused)",
+            "5 cases",
             "first: agreed 2, differs 3 (looser 3), hung 0, crashed 0",
             "second: agreed 4, differs 1 (other 1), hung 0, crashed 0",
             "",
@@ -185,7 +185,7 @@ class Verdicts(Folders):
         """One that gives idle writes a place, and one that only counts them; both are right where there are none."""
         self.put_stored("idle-first", "ruling-09", "ruling-02")
         self.expect(1, [
-            "4 cases (4 accepted, 0 refused)",
+            "4 cases",
             "first: agreed 2, differs 2 (other 2), hung 0, crashed 0",
             "second: agreed 2, differs 2 (other 2), hung 0, crashed 0",
             "",
@@ -213,7 +213,7 @@ class Verdicts(Folders):
         status, out = self.arbitrate(simulator("counts-kept-asserts"), simulator("counts-asserts-outside-b"))
         lines = out.splitlines()
         self.assertEqual((status, lines[:3]), (1, [
-            "4 cases (4 accepted, 0 refused)",
+            "4 cases",
             "first: agreed 2, differs 2 (other 2), hung 0, crashed 0",
             "second: agreed 3, differs 1 (other 1), hung 0, crashed 0"]))
         self.assertEqual([line for line in lines if " differs, " in line],
@@ -221,7 +221,7 @@ class Verdicts(Folders):
 
     def test_hung(self):
         self.expect(1, [
-            "1 case (1 accepted, 0 refused)",
+            "1 case",
             "first: agreed 0, differs 0, hung 1, crashed 0",
             "second: agreed 1, differs 0, hung 0, crashed 0",
             "",
@@ -237,19 +237,19 @@ class Verdicts(Folders):
         status, out = self.arbitrate(simulator("hangs"), "--seconds", str(SOON), "--hangs", "2", "--jobs", "1")
         self.assertLess(time.monotonic() - begun, 20)
         self.assertEqual((status, out.splitlines()[:3]), (1, [
-            "61 cases (2 accepted, 0 refused, 59 not known)",
+            "61 cases",
             "first: agreed 0, differs 0, hung 2, crashed 0, not run 59",
             "  no longer run after 2 hung runs (--hangs)"]))
         status, out = self.arbitrate(simulator("right"), "--seconds", str(SOON), "--hangs", "1", "--jobs", "1",
                                      memcase=simulator("hangs"))
         self.assertEqual((status, out.splitlines()[:3]), (2, [
-            "61 cases (0 accepted, 0 refused, 61 not known)",
+            "61 cases",
             "first: agreed 0, differs 0, hung 0, crashed 0",
             "memcase failed: no verdict in 61 cases"]))
 
     def test_crashed(self):
         self.expect(1, [
-            "1 case (1 accepted, 0 refused)",
+            "1 case",
             "first: agreed 0, differs 0, hung 0, crashed 1",
             "second: agreed 0, differs 0, hung 0, crashed 1",
             "",
@@ -259,15 +259,15 @@ class Verdicts(Folders):
             "second crashed, it ended with status 1: 1 case",
             "  worked.case: it ended with status 1: has expired",
             "",
-            "case         memcase   first    second",
-            "worked.case  accepted  crashed  crashed",
+            "case         first    second",
+            "worked.case  crashed  crashed",
             "  first crashed: it ended by signal 15 (SIGTERM)",
             "  second crashed: it ended with status 1: has expired",
         ], simulator("ends-by-signal"), simulator("ends-with-status"), "--table")
 
     def test_crashed_after_the_right_text(self):
         self.expect(1, [
-            "1 case (1 accepted, 0 refused)",
+            "1 case",
             "first: agreed 0, differs 0, hung 0, crashed 1",
             "second: agreed 1, differs 0, hung 0, crashed 0",
             "",
@@ -277,7 +277,7 @@ class Verdicts(Folders):
 
     def test_without_end_and_without_input(self):
         self.expect(1, [
-            "1 case (1 accepted, 0 refused)",
+            "1 case",
             "first: agreed 0, differs 1 (no text 1), hung 0, crashed 0",
             "second: agreed 0, differs 1 (no text 1), hung 0, crashed 0",
             "",
@@ -301,7 +301,7 @@ class Verdicts(Folders):
         status, out = self.arbitrate(simulator("loses-unknown"), simulator("loses-unknown"))
         lines = out.splitlines()
         self.assertEqual((status, lines[:3]), (1, [
-            "3 cases (3 accepted, 0 refused)",
+            "3 cases",
             "first: agreed 1, differs 2 (sharper 2), hung 0, crashed 0",
             "second: agreed 1, differs 2 (sharper 2), hung 0, crashed 0"]))
         self.assertEqual(lines[-3:], [
@@ -320,7 +320,7 @@ class Verdicts(Folders):
                          ("writes-nothing", NOT_WHOLE)):
             with self.subTest(way):
                 self.expect(2, [
-                    "1 case (0 accepted, 0 refused, 1 not known)",
+                    "1 case",
                     "first: agreed 0, differs 0, hung 0, crashed 0",
                     "second: agreed 0, differs 0, hung 0, crashed 0",
                     "memcase failed: no verdict in 1 case",
@@ -328,48 +328,11 @@ class Verdicts(Folders):
                     "no verdict: memcase failed in 1 case",
                     "  worked.case: " + how,
                     "",
-                    "case         memcase  first  second",
-                    "worked.case  -        -      -",
+                    "case         first    second",
+                    "worked.case  -        -",
                     "  no verdict: memcase " + how,
                 ], simulator("right"), simulator("loses-unknown"), "--table",
                     "--seconds", str(SOON if way == "hangs" else SECONDS), memcase=simulator(way))
-
-    def test_refused(self):
-        """Cases that are refused are told from those that are accepted, by row, of each simulator."""
-        self.put("full.txt", b"memory n=1 w=1\nwrite enable=1 address=0 data=1\n")
-        self.put("cut.case", WORKED[:-1])
-        self.put("cut-more.case", WORKED[:-9])
-        self.put_stored("row-01-n9-w1")
-        every = "5 cases (2 accepted, 3 refused: 1 by row 1, 2 by row 10)"
-        self.expect(0, [
-            every,
-            "first: agreed 5 (2 accepted, 3 refused: 1 by row 1, 2 by row 10), differs 0, hung 0, crashed 0",
-            "",
-            "case               memcase        first",
-            "cut-more.case      refused by 10  agreed",
-            "cut.case           refused by 10  agreed",
-            "full.txt           accepted       agreed",
-            "row-01-n9-w1.case  refused by 1   agreed",
-            "worked.case        accepted       agreed",
-        ], simulator("right"), "--all", "--strict")
-        status, out = self.arbitrate(simulator("right"), "sh -c 'echo refused 10 after 2'")
-        self.assertEqual((status, out.splitlines()[:3]), (1, [
-            every,
-            "first: agreed 5 (2 accepted, 3 refused: 1 by row 1, 2 by row 10), differs 0, hung 0, crashed 0",
-            "second: agreed 2 (0 accepted, 2 refused by row 10), differs 3 (refused otherwise 3), hung 0, crashed 0"]))
-
-    def test_none_accepted(self):
-        """Where every case is refused, it is said that this shows nothing; with --strict that is a fault."""
-        os.remove(os.path.join(self.folder, "worked.case"))
-        self.put("cut.case", WORKED[:-1])
-        lines = ["1 case (0 accepted, 1 refused by row 10)",
-                 "first: agreed 1 (0 accepted, 1 refused by row 10), differs 0, hung 0, crashed 0",
-                 "no case was accepted: that a simulator agrees shows nothing"]
-        self.expect(0, lines, simulator("right"))
-        self.assertEqual(self.arbitrate(simulator("right"), "--strict"), (2, "\n".join(lines) + "\n"))
-        self.assertEqual(self.errors, "arbiter: --strict: no case was accepted\n")
-        self.put("worked.case", WORKED)
-        self.assertNotIn("shows nothing", self.arbitrate(simulator("right"))[1])
 
     def test_many_names(self):
         """A group names some of its cases, and with --all all of them."""
@@ -407,7 +370,7 @@ class StrayTexts(Folders):
         status, out = self.arbitrate(simulator("right"))
         self.assertEqual((status, self.errors), (0, ""))
         lines = out.splitlines()
-        self.assertEqual(lines[:3], ["1 case (1 accepted, 0 refused), 6 files left out (named below)",
+        self.assertEqual(lines[:3], ["1 case, 6 files left out (named below)",
                                      "first: agreed 1, differs 0, hung 0, crashed 0", ""])
         self.assertEqual([line.split("; a line begins")[0] for line in lines[3:] if "long.txt" not in line], left_out)
         self.assertEqual([len(line) < 400 for line in lines if "long.txt" in line], [True])
@@ -421,14 +384,13 @@ class StrayTexts(Folders):
         right = simulator("right")
         status, out = self.arbitrate(right, "--strict", "--all")
         lines = out.splitlines()
-        self.assertEqual((status, self.errors, lines[0]), (0, "", "1 case (1 accepted, 0 refused)"))
+        self.assertEqual((status, self.errors, lines[0]), (0, "", "1 case"))
         self.assertEqual(lines[3:5], ["left out: 1 file not named .case, .txt or .csv", "  inner/note\\x1b.md"])
         self.assertNotIn("note", self.arbitrate(right)[1])
         self.put("typo.txt", b"memory n=1 w=1\nread enable=1 adress=0\n")
         status, out = self.arbitrate(right)
         self.assertEqual((status, self.errors, out.splitlines()[:2]), (0, "", [
-            "1 case (1 accepted, 0 refused), 1 file left out (named below)",
-            "first: agreed 1, differs 0, hung 0, crashed 0"]))
+            "1 case, 1 file left out (named below)", "first: agreed 1, differs 0, hung 0, crashed 0"]))
         self.assertIn("\nleft out: typo.txt is no text of a case: line 2", out)
         self.assertEqual(self.arbitrate(right, "--strict"), (2, out))
         self.assertEqual(self.errors, "arbiter: --strict: 1 file named as a case was left out\n")
@@ -442,8 +404,7 @@ class StrayTexts(Folders):
         self.put("B.Txt", open_text("examples/worked.txt"))
         self.put("C.CSV", open_text("examples/regfile.csv"))
         os.symlink(os.path.join(ROOT, "examples"), os.path.join(self.folder, "linked"))
-        self.expect(0, ["3 cases (3 accepted, 0 refused)", "first: agreed 3, differs 0, hung 0, crashed 0"],
-                    simulator("right"))
+        self.expect(0, ["3 cases", "first: agreed 3, differs 0, hung 0, crashed 0"], simulator("right"))
 
     def test_other_encodings(self):
         """What is wrong, and where, in a text that is not UTF-8."""
@@ -465,7 +426,7 @@ class StrayTexts(Folders):
         status, out = self.arbitrate(simulator("right"))
         self.assertEqual((status, self.errors),
                          (2, "arbiter: nothing was run: no file of %s is a case\n" % self.folder))
-        self.assertEqual(out.splitlines()[0], "0 cases (0 accepted, 0 refused), 1 file left out (named below)")
+        self.assertEqual(out.splitlines()[0], "0 cases, 1 file left out (named below)")
         self.assertIn("left out: a.txt is no text of a case: line 2: unknown word `rite`", out)
 
 

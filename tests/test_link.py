@@ -192,8 +192,8 @@ class Install(Programs):
         self.assertEqual(self.run_with(), (2, "", usage + "\n"))
         self.assertEqual(self.run_with(""), (2, "", usage + "\n"))
         self.assertEqual(self.run_with("one", "two"), (2, "", usage + "\n"))
-        said = "link/install: no option --prefix=x; %s, and a folder of that name is written ./--prefix=x\n" % usage
-        self.assertEqual(self.run_with("--prefix=x"), (2, "", said))
+        self.assertEqual(self.run_with("--prefix=x"), (
+            2, "", "link/install: no option --prefix=x; %s, and a folder of that name is written ./--prefix=x\n" % usage))
 
 
 @unittest.skipUnless(shutil.which("cargo"), "no cargo")

@@ -34,7 +34,6 @@ import wrongreads
 from arbitration import judging, reportpage, reports
 from arbitration.differences import SHARPER
 from arbitration.reporttext import report_lines
-from common.files import write_file
 from common.randomcases import Random, random_bytes
 from common.simulatorruns import CRASHED, HUNG, Misuse, Run
 from language import casetext
@@ -124,7 +123,7 @@ def written(report):
     """A report as it comes back from its file."""
     with tempfile.TemporaryDirectory() as folder:
         path = os.path.join(folder, "a.json")
-        write_file(path, reports.as_text(report))
+        reports.write_file(path, reports.as_text(report))
         return reports.read_file(path)
 
 
@@ -176,51 +175,6 @@ class Groups(unittest.TestCase):
                  if case["runs"][0].get("difference", {}).get("kind") == SHARPER]
         self.assertTrue(shown)
         self.assertEqual({(difference["right"], difference["found"]) for difference in shown}, {("X", "1")})
-
-    def test_accepted_and_refused(self):
-        """How many cases `memcase` accepts and refuses, by row, and on how many of each a simulator agrees, in what is
-        printed, in the file and on the page, against the texts themselves."""
-        texts = {name: memcase(data) for name, data in self.cases}
-        refused = {name: int(text.split()[1]) for name, text in texts.items() if text.startswith("refused ")}
-        agreed = {name for name, data in self.cases if flawed(data, texts[name]) == texts[name]}
-        rows = Counter(refused.values())
-        agreed_rows = Counter(row for name, row in refused.items() if name in agreed)
-        self.assertGreater(len(agreed_rows), 2)
-        totals = json.loads(reports.as_text(self.report))["totals"]
-        self.assertEqual((totals["accepted"], totals["refused"]), (
-            len(texts) - len(refused), {str(row): many for row, many in rows.items()}))
-        self.assertEqual(totals["simulators"][0]["agreed"], {
-            "accepted": len(agreed - set(refused)), "refused": {str(row): many for row, many in agreed_rows.items()}})
-        self.assertEqual([case["row"] for case in self.report["cases"]],
-                         [refused.get(case["name"], 0) for case in self.report["cases"]])
-        every, some = ("%d accepted, %d refused: %s" % (accepted, sum(found.values()), ", ".join(
-            "%d by row %d" % (found[row], row) for row in sorted(found))) for accepted, found in (
-                (len(texts) - len(refused), rows), (len(agreed - set(refused)), agreed_rows)))
-        lines = printed(self.report).splitlines()
-        self.assertEqual(lines[0], "140 cases (%s)" % every)
-        self.assertTrue(lines[1].startswith("A: agreed %d (%s), differs " % (len(agreed), some)), lines[1])
-        page = reportpage.page(self.report)
-        for words in ("140 cases (%s)" % every, "<td>%s</td>" % some, "<td>%s</td>" % every,
-                      "<td>refused by %d</td>" % min(rows), "<td>accepted</td>"):
-            self.assertIn(words, page)
-
-    def test_none_accepted(self):
-        """A run in which every case is refused says so wherever it is told, and joined reports too; one of a report
-        from before the rows were kept does not."""
-        cases = [(name, data) for name, data in self.cases if memcase(data).startswith("refused ")]
-        report = made(cases, [right, right])
-        said = "no case was accepted: that a simulator agrees shows nothing"
-        self.assertIn(said, printed(report).splitlines())
-        self.assertIn(said, reportpage.page(report))
-        parts = [made(cases, [right, right], (place, 2)) for place in (1, 2)]
-        self.assertIn(said, printed(reports.joined(["a", "b"], parts), True).splitlines())
-        older = copy.deepcopy(report)
-        del older["cases"][0]["row"]
-        self.assertTrue(reports.fits(older))
-        self.assertNotIn("shows nothing", printed(older) + reportpage.page(older))
-        self.assertIn(", 1 not known)", printed(older).splitlines()[0])
-        for row in ("9", True, 1.5):
-            self.assertFalse(reports.fits({**report, "cases": [{**report["cases"][0], "row": row}]}))
 
     def test_status(self):
         cases = self.cases[:10]
@@ -323,10 +277,9 @@ class Joining(unittest.TestCase):
     def test_missing(self):
         parts = self.shards(4)
         joined = self.join([parts[3], parts[1]])
-        self.assertRegex(printed(joined, True).splitlines()[0],
-                         r"^20 cases \([0-9]+ accepted, [0-9]+ refused: .*\); missing: shards 1/4, 3/4$")
+        self.assertEqual(printed(joined, True).splitlines()[0], "20 cases; missing: shards 1/4, 3/4")
         self.assertEqual(reports.status(joined, True), 2)
-        self.assertRegex(printed(parts[1]).splitlines()[0], r"^10 cases \([0-9]+ accepted, .*\), shard 2/4$")
+        self.assertEqual(printed(parts[1]).splitlines()[0], "10 cases, shard 2/4")
         self.assertEqual(reports.status(self.join([joined, parts[0], parts[2]]), True), 1)
 
     def test_ended(self):
@@ -596,7 +549,7 @@ class Commands(unittest.TestCase):
         self.assertEqual(self.merge(*names, "--html", "2.json"), (
             2, "", "arbiter: 2.json is a report that is joined: name another file for --html\n"))
         status, out, errors = self.arbitrate(way, "--shard", "9/9")
-        self.assertEqual((status, out.splitlines()[0], errors), (0, "0 cases (0 accepted, 0 refused), shard 9/9", ""))
+        self.assertEqual((status, out.splitlines()[0], errors), (0, "0 cases, shard 9/9", ""))
 
     def test_reduce(self):
         """The smallest case of a group is written to a folder too, and is in the report."""
@@ -617,7 +570,7 @@ class Commands(unittest.TestCase):
             with self.subTest(number.name):
                 status, out, errors, left = self.ended_by(number)
                 self.assertEqual((status, out.splitlines(), errors), (128 + number, [
-                    "2 cases (2 accepted, 0 refused)",
+                    "2 cases",
                     "first: agreed 2, differs 0, hung 0, crashed 0",
                     "second: agreed 2, differs 0, hung 0, crashed 0",
                     "ended early (%s): 2 of 4 files looked at" % number.name], ""))
@@ -635,7 +588,7 @@ class Commands(unittest.TestCase):
         self.put("c.case", storedcases.named("ruling-09").data)
         status, out, errors, left = self.ended_by(signal.SIGINT, True)
         self.assertEqual((status, out.splitlines()[:4], errors), (128 + signal.SIGINT, [
-            "1 case (1 accepted, 0 refused), 1 file left out (named below)",
+            "1 case, 1 file left out (named below)",
             "first: agreed 1, differs 0, hung 0, crashed 0",
             "second: agreed 1, differs 0, hung 0, crashed 0",
             "ended early (SIGINT): 2 of 3 files looked at"], ""))
@@ -813,8 +766,7 @@ class Documents(unittest.TestCase):
             file.write(script)
         numbers = {"SLURM_ARRAY_TASK_ID": "4", "SLURM_ARRAY_TASK_COUNT": "4", "SLURM_CPUS_PER_TASK": "2"}
         done = subprocess.run(["sh", path], cwd=ROOT, capture_output=True, check=False, env={**os.environ, **numbers})
-        self.assertEqual((done.stderr, done.stdout.splitlines()[0]), (
-            b"", b"1 case (1 accepted, 0 refused), shard 4/4"))
+        self.assertEqual((done.stderr, done.stdout.splitlines()[0]), (b"", b"1 case, shard 4/4"))
         self.assertEqual(len(reports.read_file(os.path.join(self.folder, "shard-4.json"))["cases"]), 1)
 
     @unittest.skipUnless(shutil.which("parallel"), "GNU parallel is not installed")

@@ -11,7 +11,6 @@ tests that).
 
 import contextlib
 import io
-import json
 import os
 import re
 import shlex
@@ -22,20 +21,19 @@ import tempfile
 import unittest
 import xml.etree.ElementTree
 from itertools import product
-from unittest import mock
 
 from rooms import ROOT, TOOLS
 import secondmodel
 import shownanswers
 import storedcases
 from common.casefile import ONE, X, ZERO, CaseFile
-from common.diagrams import FALSE, TRUE, Diagrams, TooLarge
+from common.diagrams import FALSE, TRUE, Diagrams
 from common.randomcases import Random, random_bytes, small, tiny, without_refusals
 from common.simulatorruns import Misuse
 from language import casetext, traces
 from papers import ASSERT, CHECK, READ, USER_VARIABLE, WRITE
 from randompairs import text_value
-from running import archive, dot, failing, failurelines, readable, refusals, runcommand, runfile, witnesses
+from running import archive, dot, readable, refusals, runcommand, witnesses
 from second import plain
 from second.reference import memcase, run_case
 
@@ -376,7 +374,7 @@ class Witnesses(unittest.TestCase):
             case = without_refusals(small(rng))
             names, conditions = random_names(rng, case)
             run = run_of(case, names, conditions)
-            lines = list(failurelines.Witnesses(run).lines())
+            lines = list(runcommand.Witnesses(run).lines())
             table = run_case(case.bytes()).check_table
             fails = table != run_case(case.bytes()).conditions.true
             self.assertEqual(any(line.startswith("the check at") for line in lines), fails, seed)
@@ -396,73 +394,6 @@ class Witnesses(unittest.TestCase):
             fewer = witnesses.cube(run.diagrams, [other for other in values if other != value])
             self.assertNotEqual(run.diagrams.but_not(fewer, where), FALSE)
         self.assertTrue(lines[-1].startswith(("    line", "the check at", "and so do", "    no access")), lines[-1])
-
-    def test_each_check_that_fails(self):
-        """The checks that fail by themselves are those of which some plain run does, the other checks left out; each is
-        named, with an assignment under which it does."""
-        found = behind = 0
-        for seed in range(250):
-            case = without_refusals(tiny(Random(5000 + seed)))
-            run = run_of(case)
-            checks = failing.Checks(run)
-            named = {check.number: check.where for check in checks.failing()}
-            fails = {number: set() for number, access in enumerate(case.accesses) if access.kind == CHECK}
-            outcome = run_case(case.bytes())
-            for place in plain.user_assignments(outcome.conditions) if fails else []:
-                plains = [plain.plain_event(event, place) for event in outcome.events]
-                for number, where in fails.items():
-                    stored = [event for event in plains[:number] if event.kind in (WRITE, ASSERT)]
-                    if not all_allowed([*stored, plains[number]], case):
-                        where.add(number_of_place(outcome.conditions, place))
-            self.assertEqual(sorted(named), [number for number, where in fails.items() if where], seed)
-            self.assertTrue(checks.is_whole())
-            for failure in failurelines.Witnesses(run).failures():
-                self.assertIn(witnesses.number_of(failure.values), fails[failure.number], seed)
-                self.assertTrue(run.diagrams.value(named[failure.number], witnesses.number_of(failure.values)))
-            narrowing = dict(witnesses.falls(run.diagrams, case.accesses, run.outcome.answers))
-            self.assertLessEqual(set(narrowing), set(named))
-            found, behind = found + len(named), behind + len(set(named) - set(narrowing))
-        self.assertGreater(found, 50)
-        self.assertGreater(behind, 10)
-
-    TWO = ("memory n=2 w=2\nvariable a b\nwrite enable=1 address=00 data=01\nwrite enable=1 address=10 data=a,b\n"
-           "check b=1 address=00 data=11\ncheck b=1 address=00 data=0X\ncheck b=1 address=10 data=1,b\n"
-           "check b=a address=10 data=1,b\ncheck b=1 address=11 data=X0\n")
-    TWO_LINES = ["the check at line 5 fails under every assignment",
-                 "  the model's word at address 00 is 01", "  the data admits 11", "  a plain run, with a=0 b=0:",
-                 "    the array starts with 0 in every location", "    line 3: write: stores 01 in location 0",
-                 "    line 5: check: finds 01 in location 0",
-                 "the check at line 7 fails under a=0, whatever the other variables are: with b=0 the model's word at "
-                 "address 10 is 00, the data admits 10",
-                 "the check at line 9 fails under every assignment: the model's word at address 11 is XX, the data "
-                 "admits X0"]
-
-    def test_checks_in_different_places(self):
-        """Each is named, though the first fails under every assignment; by a program too."""
-        with tempfile.TemporaryDirectory() as folder:
-            path = os.path.join(folder, "x.txt")
-            with open(path, "w", encoding="ascii") as file:
-                file.write(self.TWO)
-            for engine in (secondmodel.SecondProgram(), archive.Program(shlex.split(REFERENCE), 60)):
-                status, out, _ = show(path, find=lambda *_, engine=engine: (engine, None))
-                self.assertEqual((status, out.splitlines()[-len(self.TWO_LINES):]), (1, self.TWO_LINES))
-
-    def test_checks_that_a_program_cannot_tell(self):
-        """A program's text may have no room for the words, and they may be too large: then it is said that checks may
-        be missing."""
-        case = CaseFile()
-        case.check(1, [ZERO], [ONE])
-        case.check(1, [ONE], [ONE])
-        said = "a check that fails only where one before it does is not named; the archive tells it: " + archive.BUILD
-        program = archive.Program(shlex.split(REFERENCE) + ["--text-bytes", "22"], 60)
-        lines = list(failurelines.Witnesses(run_of(case, engine=program)).lines())
-        self.assertEqual((lines[0], lines[-1]), ("the check at line 1 fails under every assignment", said))
-        self.assertEqual(sum(line.startswith("the check at") for line in lines), 1)
-        with mock.patch.object(failing, "found_words", side_effect=TooLarge):
-            lines = list(failurelines.Witnesses(run_of(case)).lines())
-        self.assertEqual((lines[0], lines[-1]), ("the check at line 1 fails under every assignment", said))
-        lines = [line[:25] for line in failurelines.Witnesses(run_of(case)).lines() if line.startswith("the check")]
-        self.assertEqual(lines, ["the check at line 1 fails", "the check at line 2 fails"])
 
     def test_wrong_runs(self):
         """Runs that are none are found out: a choice that is not admitted, and one that finds what is allowed."""
@@ -488,7 +419,7 @@ class Witnesses(unittest.TestCase):
             case.write(X, [X] * 7 + [ONE], [ONE] * 15 + [ZERO])
         case.check(1, [X] * 8, [ONE] * 16)
         run = run_of(case)
-        lines = list(failurelines.Witnesses(run).lines())
+        lines = list(runcommand.Witnesses(run).lines())
         self.assertEqual(lines[0], "the check at line 202 fails under every assignment")
         self.assertIn("line 201: write, its enable X taken as 1, its address 1XXXXXXX taken as 10000000: stores "
                       "0111111111111111 = 0x7fff in location 128", lines[-2])
@@ -506,7 +437,7 @@ class Witnesses(unittest.TestCase):
         case = CaseFile()
         case.write(ONE, [ZERO], [ONE])
         case.check(1, [ZERO], [ONE])
-        lines = list(failurelines.Witnesses(run_of(case, engine=Wrong())).lines())
+        lines = list(runcommand.Witnesses(run_of(case, engine=Wrong())).lines())
         self.assertEqual(lines[-1], "  no plain run shows it: what the model answered is wrong")
 
 
@@ -628,24 +559,6 @@ class Refusals(Files):
             "", show(self.put("x.txt", apart), "--nodes", str(room))[1].splitlines()[-1]], "--nodes", str(room))
         self.assertEqual(show(self.put("x.txt", text % (" = 8 step 2", " = 9 step 2")), "--nodes", str(room))[0], 0)
 
-    def test_data_without_room(self):
-        """Data declared behind alternating addresses needs more nodes than before them, and a line says so, and not
-        that they should alternate."""
-        addresses = "variable a[1:0] = %d step 2\nvariable b[1:0] = %d step 2\n"
-        text = "memory n=2 w=3\n%svariable d[2:0] = %d\nwrite enable=1 address=a data=d\n" \
-            "check b=a == b address=b data=d\n"
-        behind, before = text % (addresses % (8, 9), 12), text % (addresses % (11, 12), 8)
-        needed = [run_case(casetext.encode(one)).record.nodes for one in (behind, before)]
-        self.assertGreater(needed[0], 1.5 * needed[1])
-        room = needed[0] - 1
-        said = ("variables of data may need far fewer nodes where they are declared before those of addresses, enables "
-                "and b\n")
-        status, out, _ = show(self.put("x.txt", behind), "--nodes", str(room))
-        self.assertEqual((status, said in out, "alternate" in out), (3, True, False))
-        self.assertEqual(show(self.put("x.txt", before), "--nodes", str(room))[0], 0)
-        out = show(self.put("x.txt", before), "--nodes", str(needed[1] - 1))[1]
-        self.assertEqual((said in out, "alternate" in out), (False, False))
-
     def full_text(self, more=0):
         """A text whose case file has 65,536 bytes, and 97 for each access more."""
         nodes = [(variable, low, 1 - low) for variable in range(8, 14) for low in (0, 1)][:11]
@@ -720,21 +633,10 @@ class Traces(Files):
             text = traces.text_of(file.read())
         as_text, as_trace = show(self.put("x.txt", text)), show(os.path.join(ROOT, "examples", "regfile.csv"))
         self.assertEqual((as_text[0], as_text[2]), (as_trace[0], as_trace[2]))
-        place = re.compile(r"^(line [0-9]+( \(time [0-9]+\))?)? +", re.MULTILINE)
+        place = re.compile(r"^line [0-9]+ +", re.MULTILINE)
         self.assertEqual(place.sub("", as_text[1]), place.sub("", as_trace[1]))
-        lines = re.findall(r"# line ([0-9]+), time ([0-9]+)", text)
-        self.assertEqual(re.findall(r"^line ([0-9]+) \(time ([0-9]+)\) ", as_trace[1], re.MULTILINE), lines)
-
-    def test_times(self):
-        """The time of a row stands with its line wherever that is named; without a time the line alone."""
-        table = "# memory n=1 w=1\nkind,time,address,data\nwrite,3.5 ns,0,1\nread,,0,\ncheck,%s,0,0\n"
-        status, out, _ = show(self.put("x.csv", table % "7\x1b ns"))
-        self.assertEqual(status, 1)
-        self.assertTrue(out.startswith("line 3 (time 3.5 ns)  write enable=1 address=0 data=1\n"), out)
-        self.assertIn("\nline 4                read enable=1 address=0\n", out)
-        self.assertIn("\nthe check at line 5 (time 7? ns) fails under every assignment\n", out)
-        self.assertIn("\n    line 3 (time 3.5 ns): write: stores 1 in location 0\n", out)
-        self.assertLess(max(map(len, show(self.put("x.csv", table % ("7" * 5000)))[1].splitlines())), 120)
+        lines = re.findall(r"# line ([0-9]+)", text)
+        self.assertEqual(re.findall(r"^line ([0-9]+)", as_trace[1], re.MULTILINE), lines)
 
     def test_mistakes(self):
         table = "# memory n=1 w=1\nkind,port,enable,address,data,b\nwrite,,1,2,1,\n"
@@ -752,84 +654,6 @@ class Traces(Files):
         self.expect_misuse("x.csv is no text of a case: line 3, column address: `z` is no value here: write x for "
                            "unknown, or declare it above the header (`# variable z`) if it is a name",
                            self.put("x.csv", table % ("z", "z")))
-
-
-class Brief(Files):
-    """`--brief` and `--json`."""
-
-    def test_brief(self):
-        """The totals, and what is said of checks, as without it."""
-        for name in ("buffer.txt", "budget.txt", "regfile.csv", "registers.txt"):
-            path = os.path.join(ROOT, "examples", name)
-            status, out, _ = show(path)
-            rest = out[out.index("\nnodes: ") + 1:]
-            self.assertEqual(show(path, "--brief"), (status, rest, ""))
-        self.expect("x.txt", Witnesses.TWO, 1, Witnesses.TWO_LINES, "--brief")
-
-    def test_brief_refusal(self):
-        """Of a refused case the refused access."""
-        path = os.path.join(ROOT, "examples", "budget.txt")
-        status, out, _ = show(path, "--entries", "2")
-        rest = out[out.index("line 16  "):]
-        self.assertEqual(show(path, "--entries", "2", "--brief"), (3, rest, ""))
-
-    def read_json(self, *words, find=secondmodel.find):
-        status, out, errors = show(*words, "--json", "-", find=find)
-        self.assertEqual(errors, "")
-        found = json.loads(out)
-        self.assertEqual((found["format"], found["status"]), (runfile.FORMAT, status))
-        return found
-
-    def test_json(self):
-        """What is shown of each access, what `memcase` prints of it, and the checks that fail."""
-        found = self.read_json(self.put("x.txt", Witnesses.TWO))
-        text = run_case(casetext.encode(Witnesses.TWO)).text
-        self.assertEqual([access["printed"] for access in found["accesses"]], text.splitlines()[:-1])
-        self.assertEqual([access["place"] for access in found["accesses"]], list(range(3, 10)))
-        self.assertEqual(found["accesses"][1], {
-            "place": 4, "time": None, "kind": "write", "text": "write enable=1 address=10 data=a,b", "printed":
-            "write 1", "shown": ["entered at place 1"], "entries": 1, "nodes": 0})
-        self.assertEqual((found["n"], found["w"], found["entries"], found["refused"], found["whole"]), (
-            2, 2, 2, None, True))
-        self.assertEqual(found["nodes"], run_case(casetext.encode(Witnesses.TWO)).record.nodes)
-        self.assertEqual(found["failing"], [
-            {"place": 5, "time": None, "assignment": {}, "address": "00", "data": "11", "word": "01"},
-            {"place": 7, "time": None, "assignment": {"a": 0}, "address": "10", "data": "10", "word": "00"},
-            {"place": 9, "time": None, "assignment": {}, "address": "11", "data": "X0", "word": "XX"}])
-
-    def test_json_of_others(self):
-        """A trace has its times, a refused case its row, and a program tells no nodes."""
-        path = os.path.join(ROOT, "examples", "regfile.csv")
-        found = self.read_json(path)
-        self.assertEqual([(access["place"], access["time"]) for access in found["accesses"]][:3], [
-            (5, "0"), (6, "10"), (7, "20")])
-        self.assertEqual((found["failing"], found["whole"]), ([], True))
-        program = archive.Program(shlex.split(REFERENCE), 60)
-        other = self.read_json(path, find=lambda *_: (program, None))
-        self.assertEqual((other["nodes"], {access["nodes"] for access in other["accesses"]}), (None, {None}))
-        self.assertEqual([access["shown"] for access in other["accesses"]],
-                         [access["shown"] for access in found["accesses"]])
-        path = os.path.join(ROOT, "examples", "budget.txt")
-        found = self.read_json(path, "--entries", "2")
-        self.assertEqual((found["refused"], len(found["accesses"]), found["failing"]), ({
-            "row": 8, "after": 5, "shown": [
-                "line 16  assert b=1 address=1 data=0", refusals.sentence(8), "the list has room for 2 entries",
-                "give more by --entries, at most 4096"]}, 5, []))
-
-    def test_json_file(self):
-        """A file, and the text beside it; one that cannot be written is named."""
-        path = os.path.join(self.folder, "x.json")
-        shown = show("examples/buffer.txt")
-        self.assertEqual(show("examples/buffer.txt", "--json", path), shown)
-        self.assertEqual(json.loads(read(path)), self.read_json("examples/buffer.txt"))
-        self.expect_misuse("cannot write no/x.json: No such file or directory", "examples/buffer.txt", "--json",
-                           os.path.join(self.folder, "no", "x.json"))
-        if os.path.exists("/dev/full"):
-            self.expect_misuse("cannot write /dev/full: No space left on device", "examples/buffer.txt", "--json",
-                               "/dev/full")
-        for option in (["--json", "-"], ["--brief"]):
-            self.expect_misuse("--dot and --svg write a condition and nothing else: leave --json and --brief out",
-                               "examples/buffer.txt", "--dot", "check", *option)
 
 
 class Pictures(Files):
@@ -1086,24 +910,6 @@ class Archives(Files):
             for size in sizes:
                 self.expect_same("examples/buffer.txt", option, str(size))
 
-    def test_order_of_variables(self):
-        """The case of the page on cases takes as many nodes as it says, in each of the three orders."""
-        page = read("docs/CASES.md").split("\n## The order of variables\n")[1].split("\n## ")[0]
-        before = "".join(line[4:] + "\n" for line in page.splitlines() if line.startswith("    "))
-        apart = before.replace(" = 24 step 2", "").replace(" = 25 step 2", "")
-        data = "variable d[15:0]\n"
-        behind = before.replace(data, "").replace("variable we\n", "variable we\n" + data)
-        behind = behind.replace("= 24 step", "= 8 step").replace("= 25 step", "= 9 step")
-        takes = [int(number.replace(",", "")) for number in re.findall(r"takes ([0-9,]+[0-9])", page)]
-        for text, nodes in zip((before, apart), takes):
-            status, out, _ = show(self.put("x.txt", text), "--nodes", "16384", "--brief",
-                                  find=lambda *_: (self.archive, None))
-            self.assertEqual((status, out.split(" (")[0], out.splitlines()[1]), (
-                0, "nodes: %d of 16384" % nodes, "every check holds, under every assignment"))
-        status, out, _ = show(self.put("x.txt", behind), "--nodes", "16384", find=lambda *_: (self.archive, None))
-        self.assertEqual((status, "refused by row 9: " in out, "declared before those of addresses" in out,
-                          "alternate" in out), (3, True, True, False))
-
     def test_large_case(self):
         """More bytes, nodes and entries than `memcase` has room for."""
         case = CaseFile(2, 2)
@@ -1126,7 +932,7 @@ class Documents(unittest.TestCase):
         section = read("docs/RUNNING.md")
         alone = [block.strip() for block in section.split("\n\n") if block.startswith("    ") and "\n" not in block]
         commands = [block for block in alone if block.startswith("python3 tools/casetext.py run ")]
-        self.assertEqual(len(commands), 4)
+        self.assertEqual(len(commands), 3)
         for command in commands:
             with self.subTest(command):
                 words = shlex.split(command)[3:]

@@ -23,7 +23,7 @@ import wrongswings
 from common.casefile import ONE, X, ZERO, CaseFile
 from common.diagrams import FALSE, TRUE, Diagrams, NotACondition, TooLarge
 from common.randomcases import Random
-from language import casetext, traces
+from language import casetext
 from papers import ASSERT, CHECK, READ, TEXT_BYTES
 from planting import planted
 from randompairs import assignments, pair_value, text_value
@@ -543,19 +543,6 @@ class Commands(Files):
             *said, wrong + ": swings",
             "  access 3 (read), bit 0, under every assignment: 1 in the first and 0 in the second"])
 
-    def test_traces(self):
-        """Two traces, and a trace beside the text of its sharper case; accesses have the lines of the traces."""
-        table = "# memory n=1 w=2\ntime,re,raddr,we,waddr,wdata\n0,,,1,d,%s\n10,1,0,we,%s,01\n"
-        first, second = self.put("a.csv", table % ("1x", "x")), self.put("b.csv", "# sharper\n" + table % ("11", "1"))
-        said = ["access 1 (write, lines 3 and 4), data bit 0: X becomes 1 under every assignment",
-                "access 3 (write, lines 4 and 5), address bit 0: X becomes 1 under every assignment",
-                "the second is a sharpening of the first under every assignment"]
-        self.expect([first, second, "--run", REFERENCE], 0, [
-            *said, REFERENCE + ": order kept, reads and checks: 1, sharper in the second: 1"])
-        text = self.put("b.txt", traces.text_of((table % ("11", "1")).encode("ascii")))
-        self.assertEqual(self.tool("sharpening.py", first, text)[0], 0)
-        self.assertEqual(self.tool("sharpening.py", second, first)[0], 3)
-
     def test_no_claim(self):
         first = self.put("a.txt", "memory n=1 w=1\nassert b=1 address=X data=1\n")
         second = self.put("b.txt", "memory n=1 w=1\nassert b=1 address=0 data=1\n")
@@ -616,15 +603,12 @@ class MisuseTest(Files):
     def test_files(self):
         right = self.put("a.txt", "memory n=1 w=1\n")
         self.put("empty.txt", b"")
-        self.put("a.csv", "# memory n=1 w=1\nkind,address,data\nwrite,0,\n")
         os.mkdir(self.path("folder.txt"))
         for name, message in (
                 ("none.txt", "cannot read none.txt: No such file or directory"),
                 ("folder.txt", "cannot read folder.txt: Is a directory"),
-                ("a", "a: name it .txt, for a text of casetext.py, .csv, for a trace, or .case, for a case file"),
-                ("empty.txt", "empty.txt is no text of a case: the text has no `memory` line"),
-                ("a.csv", "a.csv is no text of a case: line 3, column data: the cell is empty, and a write needs it"),
-                ("none.csv", "cannot read none.csv: No such file or directory")):
+                ("a", "a: name it .txt, for a text of casetext.py, or .case, for a case file"),
+                ("empty.txt", "empty.txt is no text of a case: the text has no `memory` line")):
             with self.subTest(name):
                 self.expect_misuse(message, right, self.path(name))
                 self.expect_misuse(message, self.path(name), right)
@@ -735,18 +719,6 @@ class Making(Files):
             self.assertEqual(len(changed), len(one.known))
             self.assertTrue(all(line.endswith("    # sharper") for line in changed))
 
-    def test_trace(self):
-        """The sharper cases of a trace are those of its text, written as texts."""
-        status, out, errors = self.tool("sharper.py", "examples/regfile.csv", self.path("made"), "--count", "3")
-        self.assertEqual((status, errors), (0, ""))
-        case = case_of(traces.text_of(read("examples/regfile.csv").encode("utf-8")))
-        made = sharpercases.sharper_cases(case, 3)
-        self.assertEqual([line.split(": ")[1] for line in out.splitlines()], [sharpercases.words(one) for one in made])
-        for number, one in enumerate(made, 1):
-            text = self.path("made/regfile-sharper-%d.txt" % number)
-            self.assertEqual(casetext.encode(read(text)), one.case.bytes())
-            self.assertEqual(self.tool("sharpening.py", "examples/regfile.csv", text)[0], 0)
-
     def test_case_file(self):
         path = self.put("a.case", casetext.encode("memory n=1 w=1\nread enable=1 address=X\n"))
         self.assertEqual(self.tool("sharper.py", path, self.folder)[0], 0)
@@ -776,12 +748,12 @@ class Arbitration(Files):
         self.put("b.txt", "memory n=1 w=1\nassert b=1 address=X data=1\n")
         self.put("c.txt", "memory n=1 w=1\nread enable=1 address=0\ncheck b=2 address=X data=1\n")
         self.put("d.case", b"\1")
-        right, outcomes = SIMULATOR + "right", "1 accepted, 3 refused: 1 by row 5, 1 by row 7, 1 by row 10"
+        right = SIMULATOR + "right"
         status, lines = self.arbitrate(right, right, "--sharpen", "5")
         self.assertEqual((status, lines), (0, [
-            "4 cases (%s)" % outcomes,
-            "first: agreed 4 (%s), differs 0, hung 0, crashed 0" % outcomes,
-            "second: agreed 4 (%s), differs 0, hung 0, crashed 0" % outcomes,
+            "4 cases",
+            "first: agreed 4, differs 0, hung 0, crashed 0",
+            "second: agreed 4, differs 0, hung 0, crashed 0",
             "4 sharper cases of 2 cases",
             "first: order kept in 2 pairs, swings in 0, no claim in 2, failed in 0",
             "second: order kept in 2 pairs, swings in 0, no claim in 2, failed in 0"]))
@@ -793,7 +765,7 @@ class Arbitration(Files):
                           "read enable=1 address=0\n")
         status, lines = self.arbitrate(SIMULATOR + "right", SIMULATOR + "idle-forgets", "--sharpen", "5")
         self.assertEqual((status, lines), (1, [
-            "1 case (1 accepted, 0 refused)",
+            "1 case",
             "first: agreed 1, differs 0, hung 0, crashed 0",
             "second: agreed 1, differs 0, hung 0, crashed 0",
             "2 sharper cases of 1 case",
@@ -820,7 +792,7 @@ class Arbitration(Files):
         self.put("a.txt", "memory n=1 w=1\nwrite enable=X address=0 data=1\nread enable=1 address=0\n")
         status, lines = self.arbitrate(SIMULATOR + "ends-with-status", SIMULATOR + "ends-where-idle", "--sharpen", "5")
         self.assertEqual((status, lines), (1, [
-            "1 case (1 accepted, 0 refused)",
+            "1 case",
             "first: agreed 0, differs 0, hung 0, crashed 1",
             "second: agreed 1, differs 0, hung 0, crashed 0",
             "2 sharper cases of 1 case",

@@ -20,10 +20,6 @@ followed.  A case is judged by `memcase` alone.
 There is no verdict, and nothing is counted, where it hangs or crashes itself, writes anything to standard error, or
 writes a text that is no whole one: neither `refused R after K` alone nor lines of which the last is `end N`.
 
-A case that `memcase` refuses shows no more than that it is refused: a simulator agrees that says `refused R after K`
-too.  So the first line says how many cases are accepted and how many refused, by row, and the line of a simulator how
-many of each it agreed on.  Where no case is accepted it is said that this shows nothing.
-
 A difference is one of these kinds, by the first line that does not say the same (differences.py has each rule):
 
     sharper              the simulator admits less than `memcase`: it has lost an unknown
@@ -53,8 +49,8 @@ ends it without a report.
 
 The status is 0 where all agreed; 1 where a simulator did not, swings, or failed on a sharper case; 2 where `memcase`
 failed, the arbiter cannot do what it is asked to, nothing was there to be run (an empty shard is 0), a part is missing
-from what is merged, or, with --strict, a file named as a case was left out or no case was accepted; 130, 143 and 129
-after Ctrl-C, SIGTERM and SIGHUP.
+from what is merged, or, with --strict, a file named as a case was left out; 130, 143 and 129 after Ctrl-C, SIGTERM and
+SIGHUP.
 """
 
 import argparse
@@ -71,7 +67,6 @@ from arbitration.reportpage import page
 from arbitration.reports import AGREED, DIFFERS
 from arbitration.reporttext import JUDGE, report_lines
 from common.endings import Parser, complain
-from common.files import write_file
 from common.simulatorruns import AllEnded, Misuse, all_ended, end_all, escaped, need_program, need_seconds, words_of
 from language.words import counted
 
@@ -269,13 +264,11 @@ def arbitrate(options, stopping):
 
 
 def need_all(report, options):
-    """With --strict, see that no file that is named as a case was left out, and that a case was accepted."""
+    """With --strict, see that no file that is named as a case was left out."""
     if options.strict and report["left_out"]:
         many = len(report["left_out"])
         raise Misuse("--strict: %s named as %s left out" % (
             counted(many, "file"), "a case was" if many == 1 else "cases were"))
-    if options.strict and reports.shows_nothing(report) and not reports.missing_shards(report):
-        raise Misuse("--strict: no case was accepted")
 
 
 def merge(options):
@@ -296,9 +289,9 @@ def tell(report, options, merged):
     for path, text_of in ((options.json, reports.as_text), (options.html, lambda known: page(known, merged))):
         if path not in (None, "-"):
             try:
-                write_file(path, text_of(report))
-            except Misuse as fault:
-                faults.append(fault)
+                reports.write_file(path, text_of(report))
+            except OSError as error:
+                faults.append(error)
     if options.json == "-":
         put(reports.as_text(report).splitlines())
     else:
@@ -328,8 +321,7 @@ def add_shown(parser):
     parser.add_argument("--table", action="store_true", help="a row for every case on which not all agreed")
     parser.add_argument("--json", metavar="FILE", help="write a report; - is standard output, with nothing else")
     parser.add_argument("--html", metavar="FILE", help="write a page for a browser")
-    parser.add_argument("--strict", action="store_true",
-                        help="status 2 where a file named as a case was left out, or no case was accepted")
+    parser.add_argument("--strict", action="store_true", help="status 2 where a file named as a case was left out")
 
 
 class OptionParser(Parser):

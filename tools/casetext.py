@@ -5,25 +5,34 @@ import argparse
 import sys
 
 from common.casefile import NotACaseFile
-from common.endings import Parser, complain, end
-from common.files import read_input
+from common.endings import OUTPUT_CLOSED, Parser, complain, drop_output
 from language import casetext, traces
 from language.words import Mistake, not_utf8
 
 
+def read_input(name):
+    if name == "-":
+        return sys.stdin.buffer.read()
+    with open(name, "rb") as file:
+        return file.read()
+
+
 def written(work, name):
-    """Write what is made of a file to standard output; the status, 1 where nothing can be made of it, which is said."""
-    data = read_input(name)
+    """Write what is made of a file to standard output; the status is 1, with a line, where nothing can be made."""
     try:
-        made = work(data)
+        data = work(read_input(name))
+        sys.stdout.buffer.write(data)
+        sys.stdout.buffer.flush()
+        return
     except UnicodeDecodeError as error:
-        complain("casetext", "%s %s" % (name, not_utf8(error)))
-        return 1
-    except (Mistake, NotACaseFile) as wrong:
-        complain("casetext", wrong)
-        return 1
-    sys.stdout.buffer.write(made)
-    return 0
+        message = "%s %s" % (name, not_utf8(error))
+    except BrokenPipeError:
+        drop_output()
+        sys.exit(OUTPUT_CLOSED)
+    except (Mistake, NotACaseFile, OSError) as error:
+        message = str(error)
+    complain("casetext", message)
+    sys.exit(1)
 
 
 def encoded(data):
@@ -55,22 +64,25 @@ def import_trace(arguments):
     parser.add_argument("--n", type=int, metavar="N", help="address bits")
     parser.add_argument("--w", type=int, metavar="W", help="data bits")
     options = parser.parse_args(arguments)
-    end("casetext", written, lambda data: traces.imported(data, options.n, options.w), options.file)
+    written(lambda data: traces.imported(data, options.n, options.w), options.file)
 
 
 def main():
     action, *arguments = sys.argv[1:] or ["--help"]
     if action == "run":
         from running import runcommand
-        runcommand.main(arguments)
+        sys.exit(runcommand.main(arguments))
     if action == "import":
-        import_trace(arguments)
+        sys.exit(import_trace(arguments))
     parser = Parser(description=casetext.__doc__, formatter_class=argparse.RawDescriptionHelpFormatter,
                     usage="casetext.py ACTION FILE")
     parser.add_argument("action", choices=["encode", "decode", "import", "run"])
     parser.add_argument("file")
     options = parser.parse_args()
-    end("casetext", written, {"encode": encoded, "decode": decoded}[options.action], options.file)
+    if options.action == "encode":
+        written(encoded, options.file)
+    else:
+        written(decoded, options.file)
 
 
 if __name__ == "__main__":

@@ -3,12 +3,12 @@
 
     python3 tools/sharpening.py FIRST SECOND [--outputs TEXT1 TEXT2] [--run COMMAND].. [--seconds S]
 
-FIRST and SECOND are texts of casetext.py, named `.txt`, traces, named `.csv`, or case files, named `.case`.  Under an
-assignment the second is a sharpening of the first where both have the same n, w, kinds, ports, b and check data, access
-by access, and are alike but for bits of enables, addresses and written or asserted data that are X in the first and 0
-or 1 in the second.  Each bit that is not alike is named, and where it becomes what; then under which assignments the
-whole second case is a sharpening.  Accesses are counted from 1, bits from 0, the lowest.  Behind an access after which
-no assignment is left nothing is compared.
+FIRST and SECOND are texts of casetext.py, named `.txt`, or case files, named `.case`.  Under an assignment the
+second is a sharpening of the first where both have the same n, w, kinds, ports, b and check data, access by access,
+and are alike but for bits of enables, addresses and written or asserted data that are X in the first and 0 or 1 in
+the second.  Each bit that is not alike is named, and where it becomes what; then under which assignments the whole
+second case is a sharpening.  Accesses are counted from 1, bits from 0, the lowest.  Behind an access after which no
+assignment is left nothing is compared.
 
 There, if both cases are accepted, each bit that a read of the second may return the first may return, and a check
 condition that holds in the first holds in the second; an access is judged where those up to it are a sharpening.
@@ -35,10 +35,9 @@ import argparse
 
 from common.diagrams import FALSE
 from common.endings import Parser, end, need_time, say
-from common.files import read_bytes
 from common.simulatorruns import run, words_of
 from sharpened import keptorder
-from sharpened.casepairs import Pair, read_source
+from sharpened.casepairs import Pair, read_bytes, read_source
 
 SHOWN_SWINGS = 5
 

@@ -3,12 +3,12 @@
 
     python3 tools/sharper.py FILE FOLDER [--count N] [--seed S]
 
-FILE is a text of casetext.py, named `.txt`, a trace, named `.csv`, or a case file, named `.case`.  Up to N texts are
-written to FOLDER, and none over a file that is there.  In the first every plain X of an enable, an address or written
-or asserted data is replaced by 0 or 1, as the seed says; in each of the others one is, and these are spread evenly over
-the case.  b and the data of checks stay, and so does a bit that is X under some assignments alone.  A line that is
-changed has the node numbers in place of names; all others are as they were.  A text with `variable` or `let` and a
-trace are written anew, as `casetext.py decode` prints them: their nodes have numbers only in the file.
+FILE is a text of casetext.py, named `.txt`, or a case file, named `.case`.  Up to N texts are written to FOLDER, and
+none over a file that is there.  In the first every plain X of an enable, an address or written or asserted data is
+replaced by 0 or 1, as the seed says; in each of the others one is, and these are spread evenly over the case.  b and
+the data of checks stay, and so does a bit that is X under some assignments alone.  A line that is changed has the
+node numbers in place of names; all others are as they were.  A text with `variable` or `let` is written anew, as
+`casetext.py decode` prints it: its nodes have numbers only in the file.
 
 `python3 tools/sharpening.py` judges what simulators answer to such cases, as `arbiter.py --sharpen N` does for all
 cases of a folder.  The status is 0, or 2 where nothing can be made.

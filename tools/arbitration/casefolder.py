@@ -3,11 +3,12 @@
 import os
 from collections import namedtuple
 
-from common.files import FILE_BYTES, TOO_LONG
 from common.simulatorruns import AllEnded, Misuse, all_ended, escaped
 from language import casetext, traces
 from language.words import not_utf8
 
+# The largest case file has 7,000,000 bytes.
+INPUT_BYTES = 1 << 24
 SHOWN_MISTAKE = 240
 
 # Case files, texts and traces.
@@ -62,11 +63,11 @@ def read_bytes(path):
         raise Misuse("is no file")
     try:
         with open(path, "rb") as file:
-            data = file.read(FILE_BYTES + 1)
+            data = file.read(INPUT_BYTES + 1)
     except OSError as error:
         raise Misuse("cannot be read: %s" % error.strerror) from None
-    if len(data) > FILE_BYTES:
-        raise Misuse("is longer than %d bytes%s" % (FILE_BYTES, TOO_LONG))
+    if len(data) > INPUT_BYTES:
+        raise Misuse("is longer than %d bytes: no case and no text of one is" % INPUT_BYTES)
     return data
 
 

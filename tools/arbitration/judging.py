@@ -21,8 +21,8 @@ from sharpened.sharpercases import sharper_pairs
 
 # A whole text: a refusal alone, or lines of which the last says how many entries there are.
 WHOLE_NUMBER = rb"(0|[1-9][0-9]*)"
-REFUSAL = re.compile(rb"refused " + WHOLE_NUMBER + rb" after " + WHOLE_NUMBER + rb"\n")
-WHOLE = re.compile(REFUSAL.pattern + rb"|((?!refused)[^\n]+\n)*end " + WHOLE_NUMBER + rb"\n")
+WHOLE = re.compile(rb"refused " + WHOLE_NUMBER + rb" after " + WHOLE_NUMBER + rb"\n|((?!refused)[^\n]+\n)*end "
+                   + WHOLE_NUMBER + rb"\n")
 
 # A line of two texts: its number from 1 up, and the line in each with its newline, None where the text has ended
 # before it.
@@ -106,12 +106,6 @@ def judge_fault(judge):
     return None
 
 
-def row_of(text):
-    """The row by which a whole text says that the case is refused; 0 where it is accepted."""
-    refusal = REFUSAL.match(text)
-    return int(refusal[1]) if refusal else 0
-
-
 def verdict(right, done):
     if done.failure:
         return done.failure
@@ -167,16 +161,16 @@ class Judging:
         record = {"name": name, "bytes": len(data), "digest": hashlib.sha256(data).hexdigest(),
                   "seconds": round(judge.seconds, 4), "fault": judge_fault(judge)}
         if record["fault"]:
-            return {**record, "row": None, **self.without_runs(NO_VERDICT)}
+            return {**record, **self.without_runs(NO_VERDICT)}
         runs = [None if simulator.given_up() else simulator.run(data) for simulator in self.simulators]
-        return {**record, "row": row_of(judge.out), "runs": [run_record(data, judge.out, done) for done in runs],
+        return {**record, "runs": [run_record(data, judge.out, done) for done in runs],
                 "alike": same_way(judge.out, runs), "orders": self.orders(data, runs)}
 
     def not_run(self, name):
         """What is kept of a case where nothing is run any more."""
         many = "%d hung run%s" % (self.memcase.hangs, "" if self.memcase.hangs == 1 else "s")
         fault = "was given up after " + many if self.memcase.given_up() else None
-        return {"name": name, "bytes": None, "digest": None, "seconds": 0, "fault": fault, "row": None,
+        return {"name": name, "bytes": None, "digest": None, "seconds": 0, "fault": fault,
                 **self.without_runs(NO_VERDICT if fault else NOT_RUN)}
 
     def without_runs(self, word):

@@ -7,11 +7,10 @@ since names, commands and what simulators wrote may have any letters.
 import html
 import textwrap
 
-from arbitration.reports import (AGREED, CRASHED, DIFFERS, HUNG, NO_VERDICT, NOT_RUN, VERDICTS, agreed_cases, groups,
+from arbitration.reports import (AGREED, CRASHED, DIFFERS, HUNG, NO_VERDICT, NOT_RUN, VERDICTS, groups, kind_counts,
                                  missing_shards, order_counts, reduced_of, sharper_counts, verdict_counts)
-from arbitration.reporttext import (JUDGE, detail_lines, end_lines, extent_words, failure_words, first_lines, is_open,
-                                    kind_words, nothing_lines, outcome_word, outcome_words, place_words, printable,
-                                    reduced_words, shards_words, shown_lines, title)
+from arbitration.reporttext import (detail_lines, end_lines, extent_words, failure_words, first_lines, is_open,
+                                    place_words, printable, reduced_words, shards_words, shown_lines, title)
 from common.simulatorruns import seconds_words
 from language.words import counted
 from sharpened import keptorder
@@ -108,15 +107,15 @@ def bar(counts, many):
 
 def simulator_row(report, place):
     counts = verdict_counts(report, place)
+    kinds = ", ".join("%s %d" % item for item in kind_counts(report, place).items())
     name = element("strong", text(report["names"][place])) + "<br>" + element("code", text(report["commands"][place]))
     figures = [counts[word] for word in (*VERDICTS, NOT_RUN)]
-    return row([name + bar(counts, len(report["cases"])), *figures, text(outcome_words(agreed_cases(report, place))),
-                text(kind_words(report, place))])
+    return row([name + bar(counts, len(report["cases"])), *figures, text(kinds)])
 
 
 def totals_part(report):
     rows = [simulator_row(report, place) for place in range(len(report["names"]))]
-    return table(["simulator", *map(Figure, (*VERDICTS, NOT_RUN)), "agreed on", "kinds of difference"], rows)
+    return table(["simulator", *map(Figure, (*VERDICTS, NOT_RUN)), "kinds of difference"], rows)
 
 
 def orders_part(report):
@@ -243,7 +242,7 @@ def case_words(case):
 def case_rows(report, number, case):
     """The row of a case, and one with what is to be told of it."""
     cells = [element("span", text(case["name"]), class_="case"), Figure("" if case["bytes"] is None else case["bytes"]),
-             text(outcome_word(case)), seconds(case["seconds"])]
+             seconds(case["seconds"])]
     for run in case["runs"]:
         cells += [verdict_cell(run["verdict"]), seconds(run["seconds"])]
     details = list(detail_lines(report, case))
@@ -257,7 +256,7 @@ def case_rows(report, number, case):
 
 
 def cases_part(report):
-    names = ["case", Figure("bytes"), JUDGE, Figure("s")]
+    names = ["case", Figure("bytes"), Figure("memcase s")]
     for name in report["names"]:
         names += [text(name), Figure("s")]
     rows = [line for number, case in enumerate(report["cases"]) for line in case_rows(report, number, case)]
@@ -269,7 +268,7 @@ def cases_part(report):
 
 def warnings(report, merged):
     words = [extent_words(report, merged)] if merged and missing_shards(report) else []
-    words += [*nothing_lines(report), *end_lines(report)]
+    words += end_lines(report)
     for place, name in enumerate(report["names"]):
         if verdict_counts(report, place)[NOT_RUN]:
             words.append("%s was no longer run after %s" % (name, counted(report["hangs"], "hung run")))

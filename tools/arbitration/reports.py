@@ -12,19 +12,16 @@ A report is a dictionary of plain values, so that the file `--json` writes has a
     unnamed     how many files are no cases by their names; `others`: these names, which older reports do not have
     left_out    files that are named as cases and are none: `name`, `why`
     cases       in the order of their names: `name`; `bytes`, `digest`: of the case file, null where it was not read;
-                `seconds` of `memcase`; `fault`, why there is no verdict, or null; `row`, by which `memcase` refuses it,
-                0 where it accepts it, null where that is not known; older reports do not have it; `runs`, `alike`,
-                `orders`
+                `seconds` of `memcase`; `fault`, why there is no verdict, or null; `runs`, `alike`, `orders`
     reduced     the smallest cases found of groups: `simulator`, `kind`, `access`; `name` of the case that it was made
                 of; `bytes`; `hex`; `text` of casetext.py, null of a damaged case; `difference`, `shown`; `whole`,
                 whether it was ended before nothing more could be left out
 
-and, made of these and not read again, `totals` and `groups`.  In the totals `accepted` is how many cases `memcase`
-accepts, and `refused` how many it refuses by each row; of each simulator `agreed` has the same of the cases on which it
-agreed.  For each simulator in turn `runs` has a `verdict` and its `seconds`; where it differs `difference`, the fields
-of differences.py, and `shown`: the line, the byte, and what both have there; where it hung or crashed `how`, and
-whether its text was `right`.  `alike`: all simulators have the same wrong line first.  `orders`, for each simulator:
-its verdicts on sharper cases, each with `where` and, of those that are wrong, the kind of `access` and `words`.
+and, made of these and not read again, `totals` and `groups`.  For each simulator in turn `runs` has a `verdict` and
+its `seconds`; where it differs `difference`, the fields of differences.py, and `shown`: the line, the byte, and what
+both have there; where it hung or crashed `how`, and whether its text was `right`.  `alike`: all simulators have the
+same wrong line first.  `orders`, for each simulator: its verdicts on sharper cases, each with `where` and, of those
+that are wrong, the kind of `access` and `words`.
 """
 
 import json
@@ -113,7 +110,6 @@ def fits(report):
     many = len(report["names"])
     return (many in (1, 2) and len(report["commands"]) == many and list_of(STRING).is_of(report.get("others", []))
             and all(len(case["runs"]) == len(case["orders"]) == many for case in report["cases"])
-            and all(MAYBE_WHOLE.is_of(case.get("row")) for case in report["cases"])
             and all(len(part["shard"]) == 2 and 1 <= part["shard"][0] <= part["shard"][1] for part in report["parts"])
             and all(0 <= reduced["simulator"] < many for reduced in report["reduced"]))
 
@@ -122,26 +118,6 @@ def fits(report):
 
 def verdict_counts(report, simulator):
     return Counter(case["runs"][simulator]["verdict"] for case in report["cases"])
-
-
-def agreed_cases(report, simulator):
-    return [case for case in report["cases"] if case["runs"][simulator]["verdict"] == AGREED]
-
-
-def outcomes(cases):
-    """How many of some cases `memcase` accepts, and how many it refuses by each row."""
-    rows = Counter(case.get("row") for case in cases)
-    return {"accepted": rows[0], "refused": {row: rows[row] for row in sorted(filter(None, rows))}}
-
-
-def shows_nothing(report):
-    """Whether `memcase` refuses cases, and accepts none that it was run on."""
-    return any(case.get("row") for case in report["cases"]) and not any(map(may_be_accepted, report["cases"]))
-
-
-def may_be_accepted(case):
-    """Whether a case was accepted, as those of older reports may have been that were run."""
-    return case.get("row", 0) == 0 and case["fault"] is None and was_run(case)
 
 
 def kind_counts(report, simulator):
@@ -166,9 +142,7 @@ def totals(report):
         "cases": len(report["cases"]),
         "no verdict": sum(case["fault"] is not None for case in report["cases"]),
         "alike": sum(case["alike"] for case in report["cases"]),
-        **outcomes(report["cases"]),
         "simulators": [{"name": name, "verdicts": dict(verdict_counts(report, place)),
-                        "agreed": outcomes(agreed_cases(report, place)),
                         "differences": kind_counts(report, place), "orders": dict(order_counts(report, place))}
                        for place, name in enumerate(report["names"])]}
 
@@ -276,6 +250,18 @@ def need_place(path):
         raise Misuse("no folder %s for %s: make it first" % (folder, os.path.basename(path)))
     if not os.access(folder, os.W_OK):
         raise Misuse("the folder %s cannot be written" % folder)
+
+
+def write_file(path, text):
+    """Write a file whole: what is read under its name is never a part of it."""
+    if not os.path.exists(path) or os.path.isfile(path):
+        part = "%s.%d.part" % (path, os.getpid())
+        with open(part, "w", encoding="utf-8") as file:
+            file.write(text)
+        os.replace(part, path)
+    else:
+        with open(path, "w", encoding="utf-8") as file:
+            file.write(text)
 
 
 def read_file(path):

@@ -1,8 +1,7 @@
 """What is printed of a report: totals first, then groups, then the cases one by one where that is asked for."""
 
-from arbitration.reports import (AGREED, CRASHED, DIFFERS, HUNG, NO_VERDICT, NOT_RUN, VERDICTS, agreed_cases,
-                                 ended_parts, groups, kind_counts, missing_shards, order_counts, outcomes, reduced_of,
-                                 sharper_counts, shows_nothing, verdict_counts)
+from arbitration.reports import (AGREED, CRASHED, DIFFERS, HUNG, NOT_RUN, VERDICTS, ended_parts, groups, kind_counts,
+                                 missing_shards, order_counts, reduced_of, sharper_counts, verdict_counts)
 from language.words import counted
 from papers import TEXT_BYTES
 from sharpened import keptorder
@@ -23,23 +22,9 @@ def shards_words(shards):
     return ", ".join("%d/%d" % tuple(shard) for shard in shards)
 
 
-def outcome_words(cases):
-    """How many of some cases `memcase` accepts and refuses, by row, and of how many that is not known."""
-    found = outcomes(cases)
-    rows, refused = found["refused"], sum(found["refused"].values())
-    words = ["%d accepted" % found["accepted"], "%d refused" % refused]
-    if len(rows) == 1:
-        words[1] += " by row %d" % next(iter(rows))
-    elif rows:
-        words[1] += ": " + ", ".join("%d by row %d" % (many, row) for row, many in rows.items())
-    unknown = len(cases) - found["accepted"] - refused
-    return ", ".join(words + ["%d not known" % unknown] * (unknown > 0))
-
-
 def extent_words(report, merged):
-    """How many cases there are, accepted and refused, how many files named as cases are none, and the shard, or those
-    that are missing."""
-    words = "%s (%s)" % (counted(len(report["cases"]), "case"), outcome_words(report["cases"]))
+    """How many cases there are, how many files named as cases are none, and the shard, or those that are missing."""
+    words = counted(len(report["cases"]), "case")
     if report["left_out"]:
         words += ", %s left out (named below)" % counted(len(report["left_out"]), "file")
     if merged and missing_shards(report):
@@ -57,28 +42,14 @@ def end_lines(report):
         yield "%sended early (%s): %d of %s looked at" % (shard, part["ended"], part["done"], files)
 
 
-def kind_words(report, place):
-    return ", ".join("%s %d" % item for item in kind_counts(report, place).items())
-
-
-def agreed_words(report, place):
-    """On how many accepted and refused cases a simulator agreed; nothing where none is refused."""
-    return outcome_words(agreed_cases(report, place)) if outcomes(report["cases"])["refused"] else ""
-
-
 def verdict_words(report, place):
     counts = verdict_counts(report, place)
-    inner = {AGREED: agreed_words(report, place), DIFFERS: kind_words(report, place)}
     words = []
     for verdict in VERDICTS + ((NOT_RUN,) if counts[NOT_RUN] else ()):
-        words.append("%s %d" % (verdict, counts[verdict]) + (" (%s)" % inner[verdict] if inner.get(verdict) else ""))
+        kinds = kind_counts(report, place) if verdict == DIFFERS else {}
+        inner = ", ".join("%s %d" % item for item in kinds.items())
+        words.append("%s %d" % (verdict, counts[verdict]) + (" (%s)" % inner if inner else ""))
     return ", ".join(words)
-
-
-def nothing_lines(report):
-    """Where no case was accepted."""
-    if shows_nothing(report):
-        yield "no case was accepted: that a simulator agrees shows nothing"
 
 
 def total_lines(report, merged):
@@ -90,7 +61,6 @@ def total_lines(report, merged):
     failed = sum(case["fault"] is not None for case in report["cases"])
     if failed:
         yield "memcase failed: no verdict in " + counted(failed, "case")
-    yield from nothing_lines(report)
     yield from end_lines(report)
     if report["sharpen"]:
         yield "%s of %s" % tuple(map(counted, sharper_counts(report), ("sharper case", "case")))
@@ -243,19 +213,11 @@ def table_lines(report, every):
     rows = [(case, details) for case, details in rows if every or details or is_open(case)]
     if not rows:
         return
-    table = [(["case", JUDGE, *report["names"]], [])] + [
-        ([case["name"], outcome_word(case), *(run["verdict"] for run in case["runs"])], details)
-        for case, details in rows]
-    widths = [max(len(cells[place]) for cells, _ in table) for place in range(len(table[0][0]))]
-    for cells, details in table:
+    widths = [max(len(case["name"]) for case, _ in rows)] + [max(len(name), len(DIFFERS)) for name in report["names"]]
+    for cells, details in [(["case", *report["names"]], [])] + [
+            ([case["name"], *(run["verdict"] for run in case["runs"])], details) for case, details in rows]:
         yield "  ".join("%-*s" % item for item in zip(widths, cells)).rstrip()
         yield from details
-
-
-def outcome_word(case):
-    """What `memcase` says of a case."""
-    row = case.get("row")
-    return NO_VERDICT if row is None else "refused by %d" % row if row else "accepted"
 
 
 def is_open(case):

@@ -8,8 +8,6 @@
 `encode` writes the case file of a text, and `decode` a text of a case file, which `encode` turns into the same bytes.
 `import` writes a text from a trace, a table of accesses in CSV.  `run` runs a text and says what came out in the
 names of the text.  `-` stands for standard input.  Content is not judged: a text may say a case that `memcase` refuses.
-The status is 0; 1 where a file is no text, trace or case file, with a line on standard error that says why; 2 where it
-cannot be read or the output cannot be written; 130, 143 and 129 after Ctrl-C, SIGTERM and SIGHUP.  `run` has its own.
 
 A text has one statement to a line; `#` begins a comment, and blanks and tabs separate.
 
@@ -31,8 +29,7 @@ declared has 8, the next 9, and so on, in a vector from its first index to its l
 given is the one after the highest so far.  The conditions of a text are reduced decision diagrams in the order of these
 numbers, and so are those that `memcase` prints: (12 0 1) is the variable 12.  Two vectors that are compared with each
 other make small diagrams where their bits alternate (`r[15:0] = 8 step 2` and `s[15:0] = 9 step 2`), and large ones
-where one stands before the other.  Variables of data make small ones where they are declared before those of addresses,
-enables and b: the bits of a word that is read then share what the addresses decide, and else each has its own.
+where one stands before the other.
 
 Expressions, from those that bind most closely on; equal ones are taken from left to right:
 
@@ -123,10 +120,6 @@ def plain_number(text, most, what, at=None):
     if len(digits) > len(str(most)) or int(digits) > most:
         raise Mistake("%s is %s, and at most %d fits the file" % (what, shown(text), most), at)
     return int(digits)
-
-
-class TwoReadings(Mistake):
-    """A word that may be a hexadecimal one, or bits."""
 
 
 class NoNode(Exception):
@@ -454,7 +447,7 @@ class Encoder:
                 shown(text), "; as bits it is %s" % shown(bits) if bits else ""), at)
         if word.width is None and len(bits) == width:
             if len(bits) <= 4 or fits(word, width):
-                raise TwoReadings("`%s` may be a hexadecimal word, %d'h%s, or the bits %s: write one of these" % (
+                raise Mistake("`%s` may be a hexadecimal word, %d'h%s, or the bits %s: write one of these" % (
                     text, width, text[2:], bits), at)
             return [VALUES[letter] for letter in bits]
         return [VALUES[letter] for letter in fitted(word, word.width or width, at)]

@@ -37,13 +37,12 @@ names and expressions, x alone for a field that is all unknown.  Words that have
 `address:dec`, `data:hex`, `:bin` or `:oct` say how the digits of a column are read (x is a digit too).  In a column
 `:hex` what is made of the digits 0 to 9, a to f and x is a word, and a name of such letters stands in parentheses.
 
-A name is a variable, and need not be declared: the variables are declared in the order in which they come first, those
-that stand in data before all others, since conditions are small in that order; a name that is the whole of an address
-or of data is a vector of that width, r[4:0].  What a simulator may have written for a value is no name unless it is
-declared: digits of the column with ? or the letters U Z W L H and - of std_logic, words as true, low, hiz and unknown;
-it is refused, and x is the unknown value.  To choose the order, and to have every other name refused, declare them
-above the header; conditions may be named there too.  A line there that begins so is a statement of the text, and any
-other that begins with `#` a comment:
+A name is a variable, and need not be declared: the variables are declared in the order in which they come first, a
+name that is the whole of an address or of data as a vector of that width, r[4:0].  What a simulator may have written
+for a value is no name unless it is declared: digits of the column with ? or the letters U Z W L H and - of std_logic,
+words as true, low, hiz and unknown; it is refused, and x is the unknown value.  To choose the order, and to have every other
+name refused, declare them above the header; conditions may be named there too.  A line there that begins so is a
+statement of the text, and any other that begins with `#` a comment:
 
     # variable we r[4:0]
     # let hit = we & r == 5
@@ -93,11 +92,8 @@ Group = namedtuple("Group", "kind port columns")
 # A row: the line on which it begins, and its cells.
 Row = namedtuple("Row", "line cells")
 
-# Where an access stands: its row's line, and what its cell of the column `time` says, "" where there is none.
-Place = namedtuple("Place", "line time")
-
-# An access: its place, its kind and port, its cells by their fields, and what its comment says.
-Access = namedtuple("Access", "place kind cells remark")
+# An access: its row's line, its kind and port, its cells by their fields, and what its comment says.
+Access = namedtuple("Access", "line kind cells remark")
 
 # What a cell says, and the name of its column, None where there is no such column.
 Cell = namedtuple("Cell", "text column")
@@ -230,22 +226,21 @@ class Table:
         last = max(column.place for column in self.columns)
         if any(row.cells[last + 1:]):
             raise mistake(row.line, None, "it has more cells than the header; a cell that holds a comma is quoted")
-        cells = {column.name: cell_of(row, column) for column in self.remarks if cell_of(row, column)}
         remark = ", ".join(["line %d" % row.line] + [
-            ("time " if name == "time" else "") + cell for name, cell in cells.items()])
+            ("time " if column.name == "time" else "") + cell_of(row, column)
+            for column in self.remarks if cell_of(row, column)])
         for group in self.groups:
-            access = read_access(row, group)
+            access = read_access(row, group, remark)
             if access:
-                place = Place(row.line, shown_remark(cells.get("time", "")))
-                self.accesses.append(Access(place, *access, remark))
+                self.accesses.append(access)
 
 
 def cell_of(row, column):
     return row.cells[column.place] if column and column.place < len(row.cells) else ""
 
 
-def read_access(row, group):
-    """The kind and the cells of the access that a group makes in a row; None where it makes none."""
+def read_access(row, group, remark):
+    """The access that a group makes in a row; None where it makes none."""
     cells = {field: Cell(cell_of(row, column), column) for field, column in group.columns.items()}
     kind = group.kind
     if kind is None:
@@ -258,7 +253,7 @@ def read_access(row, group):
         return None
     if group.port is not None:
         cells["port"] = Cell(group.port, None)
-    return kind, needed(row, kind, cells)
+    return Access(row.line, kind, needed(row, kind, cells), remark)
 
 
 def with_article(kind):
@@ -287,15 +282,13 @@ def needed(row, kind, cells):
 # Names
 
 class Names:
-    """The names that stand in expressions and were not declared, in the order in which they come first; `data` has
-    those that stand in data."""
+    """The names that stand in expressions and were not declared, in the order in which they come first."""
 
     def __init__(self, known):
         self.known = known
         self.widths = {}
-        self.data = set()
 
-    def add(self, text, width, is_data=False):
+    def add(self, text, width):
         """The names of a text; one that is the whole text has a width, every other is one bit wherever it is not."""
         for item in text.split(","):
             for name in names_in(item.strip()):
@@ -306,8 +299,6 @@ class Names:
                     raise Mistake("`%s` is a vector of %d bits in a cell before, and of %d here: use two names" % (
                         shown(name), self.widths[name], whole))
                 self.widths[name] = max(whole, self.widths.get(name, 1))
-                if is_data:
-                    self.data.add(name)
 
     def is_bit(self, name):
         """Whether a name is that of a bit of a vector, r3."""
@@ -317,10 +308,8 @@ class Names:
                    for start in range(place, len(name)) for number in [name[start:]])
 
     def declarations(self):
-        """A line for each, those of data first."""
-        names = sorted(self.widths, key=lambda name: name not in self.data)
-        return ["variable %s" % (name if self.widths[name] == 1 else "%s[%d:0]" % (name, self.widths[name] - 1))
-                for name in names if not self.is_bit(name)]
+        return ["variable %s" % (name if width == 1 else "%s[%d:0]" % (name, width - 1))
+                for name, width in self.widths.items() if not self.is_bit(name)]
 
 
 @functools.lru_cache(None)
@@ -369,7 +358,7 @@ class Writer:
         for access in table.accesses:
             fields = ["%s=%s" % (field, self.field(access, field, cell)) for field, cell in access.cells.items()
                       if (field, cell.text) != ("port", "0")]
-            self.put(" ".join([access.kind, *fields]), access.place.line, shown_remark(access.remark))
+            self.put(" ".join([access.kind, *fields]), access.line, shown_remark(access.remark))
 
     def memory(self, table, n, w):
         said = [(line, rest) for line, word, rest in table.statements if word == "memory"]
@@ -410,7 +399,7 @@ class Writer:
         """The names of the cells, by rows and from left to right."""
         for line, field, cell in named_cells(table):
             try:
-                names.add(cell.text, self.encoder.width(field), field == "data")
+                names.add(cell.text, self.encoder.width(field))
             except Mistake as wrong:
                 raise mistake(line, cell.column.name, wrong) from None
 
@@ -427,12 +416,9 @@ class Writer:
                 self.encoder.pairs(field, text, 0)
             return text
         except TooLarge:
-            raise mistake(access.place.line, column, "it takes too many steps in this order of variables") from None
-        except casetext.TwoReadings as wrong:
-            raise mistake(access.place.line, column, "%s, or call the column %s:hex or %s:bin" % (
-                wrong, column, column)) from None
+            raise mistake(access.line, column, "it takes too many steps in this order of variables") from None
         except Mistake as wrong:
-            raise mistake(access.place.line, column, wrong) from None
+            raise mistake(access.line, column, wrong) from None
 
     def marked(self, field, cell):
         """A cell with its radix in words of the text."""
@@ -441,20 +427,15 @@ class Writer:
         if cell.text in self.encoder.vectors:
             raise Mistake("`%s` is made of digits of this column, and is a name elsewhere: write (%s) for the name, or "
                           "%d'h%s" % (cell.text, cell.text, self.encoder.width(field), cell.text))
-        width = self.encoder.width(field)
-        if cell.text[:2] in ("0x", "0X") and cell.column.radix == "h":
+        if cell.column.radix == "h" and cell.text[:2] in ("0x", "0X"):
             raise Mistake("`%s` in a column of hexadecimal digits may have a digit x: write it without 0x, or as "
-                          "%d'h.." % (shown(cell.text), width))
-        if cell.text[:2] in ("0x", "0X") and (cell.column.radix, len(cell.text)) != ("b", width):
-            raise Mistake("`%s` in a column :%s may be a hexadecimal word: call the column %s:hex and write it without "
-                          "0x, or write %d'h.. or %d'%s.." % (shown(cell.text), RADIX_NAMES[cell.column.radix],
-                                                              cell.column.name, width, width, cell.column.radix))
+                          "%d'h.." % (shown(cell.text), self.encoder.width(field)))
         return "%d'%s%s" % (self.encoder.width(field), cell.column.radix, cell.text)
 
 
 def named_cells(table):
     """The cells in which names may stand, by rows and from left to right: each with its line and field."""
-    cells = [(access.place.line, cell.column.place, field, cell) for access in table.accesses
+    cells = [(access.line, cell.column.place, field, cell) for access in table.accesses
              for field, cell in access.cells.items() if cell.column and field != "port" and not is_digits(cell)]
     return [(line, field, cell) for line, _, field, cell in sorted(cells, key=lambda entry: entry[:2])]
 
@@ -499,11 +480,11 @@ def shown_remark(remark):
 
 
 def read_trace(data, n=None, w=None):
-    """The text of a trace, given as bytes, and the place in the trace of each access."""
+    """The text of a trace, given as bytes, and the trace's line of each access."""
     table = Table(data.decode("utf-8"))
     writer = Writer()
     writer.table(table, n, w)
-    return "\n".join(writer.lines) + "\n", [access.place for access in table.accesses]
+    return "\n".join(writer.lines) + "\n", [access.line for access in table.accesses]
 
 
 def text_of(data, n=None, w=None):

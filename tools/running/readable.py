@@ -90,15 +90,6 @@ class Names:
         indices = sorted({int(bit[2]) for bit in found if bit and bit[1] == name}, reverse=True)
         return ["%s[%d]" % (name, index) for index in indices]
 
-    def vectors(self):
-        """The variables of each vector, in their order."""
-        found = {}
-        for number, name in sorted(self.variables.items()):
-            bit = VECTOR_BIT.match(name)
-            if bit:
-                found.setdefault(bit[1], []).append(number)
-        return list(found.values())
-
     def assignment(self, values):
         """Values of variables in words; a vector is one word, in which `-` is a bit that has no value here."""
         values = dict(values)

@@ -2,6 +2,7 @@
 
 import os
 import re
+from bisect import bisect_left
 
 from common.diagrams import FALSE
 from language.words import counted
@@ -73,13 +74,12 @@ class Reasons:
     def of_nodes(self):
         nodes = self.case.nodes
         if not is_standard(nodes):
-            count = first_not_standard(nodes)
+            count = bisect_left(range(len(nodes) + 1), True, key=lambda many: not is_standard(nodes[:many]))
             yield "node %d, (%d %d %d), is the first that is not: %s" % (
                 count + 1, *nodes[count - 1], why_not_standard(nodes[:count]))
         elif self.capacities and len(nodes) + 2 > self.capacities[0]:
             yield "with 0 and 1 there are %d nodes, and there is room for %d" % (len(nodes) + 2, self.capacities[0])
             yield more("--nodes", self.capacities[0], NODE_LIMIT)
-            yield from self.of_order()
 
     def of_entries(self):
         if self.capacities:
@@ -90,30 +90,8 @@ class Reasons:
         if self.capacities:
             yield "there is room for %s" % counted(self.capacities[0], "node")
             yield more("--nodes", self.capacities[0], NODE_LIMIT)
-        yield from self.of_order()
-
-    def of_order(self):
-        """Which order of the variables may need fewer nodes."""
-        selecting, data = self.used_variables()
-        if any(variable > min(selecting, default=variable) for variable in data - selecting):
-            yield ("variables of data may need far fewer nodes where they are declared before those of addresses, "
-                   "enables and b")
-        vectors = [[number for number in numbers if number in selecting] for numbers in self.names.vectors()]
-        ranges = sorted((numbers[0], numbers[-1]) for numbers in vectors if len(numbers) > 1)
-        if any(one[1] < other[0] for one, other in zip(ranges, ranges[1:])):
+        if any("[" in name for name in self.names.variables.values()):
             yield "vectors that are compared may need fewer nodes where their bits alternate (`a[4:0] = 8 step 2`)"
-
-    def used_variables(self):
-        """The variables on which addresses, enables and b turn, and those on which data does."""
-        turning = [set(), set()]
-        for variable, low, high in self.nodes[2:]:
-            turning.append({variable} | turning[low] | turning[high])
-        selecting, data = set(), set()
-        for access in self.case.accesses:
-            data.update(*(turning[node] for pair in access.data for node in pair if node < len(turning)))
-            selecting.update(*(turning[node] for node in access.control if node < len(turning)))
-            selecting.update(*(turning[node] for pair in access.address for node in pair if node < len(turning)))
-        return selecting, data
 
     def of_text(self, access):
         """What to do where the text has no room; `access` is None where its last line alone has none."""
@@ -177,18 +155,6 @@ def more(option, now, most):
     if now >= most:
         return "that is the most that there may be: a case with fewer accesses or fewer variables needs less"
     return "give more by %s, at most %d" % (option, most)
-
-
-def first_not_standard(nodes):
-    """How many of some nodes there are up to the first by which they are not in standard form."""
-    standard, many = 0, len(nodes)
-    while many - standard > 1:
-        middle = (standard + many) // 2
-        if is_standard(nodes[:middle]):
-            standard = middle
-        else:
-            many = middle
-    return many
 
 
 def why_not_standard(nodes):

@@ -3,8 +3,8 @@
     python3 tools/casetext.py run FILE [options]
 
 FILE is a text (`.txt`), a trace (`.csv`), a case file (`.case`) or `-`, standard input; one of another name is a case
-file where it has a zero byte.  Each access is shown with its line, and the time of a trace, and below it what came of
-it and how many nodes and entries it added:
+file where it has a zero byte.  Each access is shown with its line, and below it what came of it and how many nodes and
+entries it added:
 
     entered at place P     a write, or an assert, that became entry P of the update list
     idle                   a write whose enable is 0 under every assignment: nothing is entered
@@ -19,18 +19,14 @@ in them; a variable without a name is `v` and its number.  Long ones are cut; --
 
 Where a check condition is not 1, an assignment is shown under which a check fails, what the model says of the word
 there, and a plain run in which the check finds a wrong word: how the array starts, what every X of an access that
-may touch the location is taken as, and the word found.  Then each other check that fails by itself is named, though it
-may fail only where one before it does: with an assignment, the word there and what the data admits.  In an assignment
-a vector is one word, and a bit of it that does not matter is `-`.
+may touch the location is taken as, and the word found.  In an assignment a vector is one word, and a bit of it that
+does not matter is `-`.
 
 The model runs through the archive of the C functions, with as many nodes, entries and bytes of text as `memcase` has
 or --nodes, --entries and --text say, once as a whole (md_case) and once access by access; the two must agree.  A case
 file may have any length there; `memcase` reads 65536 bytes of it, and a line below the totals says where a case has
 more.  Where there is no archive or no C compiler, `memcase` itself is run, and node counts are not known.
 
-    --brief                  of the accesses show the refused one alone, where there is one; the totals, and the checks
-                             that fail, are shown as ever
-    --json FILE              write what came of it for programs (running/runfile.py has the fields)
     --dot WHAT, --svg WHAT   write a condition as a graph for Graphviz, or as a picture, and nothing else.  WHAT is
                              a condition's or a variable's name; `check` or `assert`, the condition at the end;
                              LINE, that after a check or an assert; or LINE:BIT:h or LINE:BIT:l, of a read's bit.
@@ -38,37 +34,38 @@ more.  Where there is no archive or no C compiler, `memcase` itself is run, and 
 
 The status is 0 where the case ran and its check condition is 1, 1 where the check condition is not 1, 3 where the
 case was refused, and 2 where the tool cannot do what it is asked to; with --dot and --svg it is 0 or 2.  Where the
-tool was ended by Ctrl-C it is 130, by SIGTERM 143, by SIGHUP 129, and where its output was closed before all was
-written 141.
+tool was ended by Ctrl-C it is 130, and where its output was closed before all was written 141.
 """
 
 import argparse
 import functools
-import itertools
 import sys
 from collections import namedtuple
 
-from common.casefile import CaseFile, parse_start
+from common.casefile import ONE, CaseFile, parse_start
 from common.diagrams import TRUE, Diagrams, NotACondition, TooLarge
-from common.endings import Parser, end, need_time, say
-from common.files import read_input, write_file
+from common.endings import Parser, end, need_time, say, standard_input
 from common.simulatorruns import Misuse
 from language import casetext, traces
-from language.words import counted, not_utf8, shown
-from papers import ASSERT, CHECK, IDLE, INPUT_BYTES, NAMES, READ, TERMINALS, WRITE
-from running import archive, dot, refusals, runfile
-from running.failurelines import Witnesses
+from language.words import counted, not_utf8
+from papers import (ASSERT, CHECK, IDLE, NAMES, READ, TERMINALS, USER_VARIABLE, WRITE, Access,
+                    INPUT_BYTES as MEMCASE_BYTES)
+from running import archive, dot, refusals, witnesses
 from running.readable import Names, Readable
 from second.tables import is_standard
 from sharpened import keptorder
+from sharpened.casepairs import INPUT_BYTES, nodes_of, read_bytes
 
 SHOWN_LINE = 110
+SHOWN_CHECKS = 5
+SHOWN_EVENTS = 30
+SHOWN_ZEROS = 12
+WIDE = 5
 STDIN = "standard input"
 
 # What is run: its name, bytes and contents; the word and number of each access, as `line 7`; the text of each, None
-# in a case file; the names of variables and of nodes; and what a trace says of the time of each access, "" where it
-# says nothing.
-Loaded = namedtuple("Loaded", "name data case word numbers texts variables conditions times", defaults=((),))
+# in a case file; the names of variables and of nodes.
+Loaded = namedtuple("Loaded", "name data case word numbers texts variables conditions")
 
 # What came of it: the answers to the accesses that were accepted, as conditions, and their lines, none where a program
 # does not tell them; the calls or None; the row of a refusal or None, and how many accesses were accepted.
@@ -77,23 +74,32 @@ Outcome = namedtuple("Outcome", "answers lines calls row accepted")
 
 # What is given
 
+def read_input(name):
+    if name != "-":
+        return read_bytes(name)
+    data = standard_input(INPUT_BYTES + 1)
+    if len(data) > INPUT_BYTES:
+        raise Misuse("standard input is longer than %d bytes: no case and no text of one is" % INPUT_BYTES)
+    return data
+
+
 def load(name):
     """The case of a file, with the names and lines of a text."""
     data = read_input(name)
     if name.endswith(".case") or not name.endswith(".txt") and b"\0" in data:
         return load_case(name, data)
-    called_by = STDIN if name == "-" else name
+    shown = STDIN if name == "-" else name
     try:
-        text, places = traces.read_trace(data) if name.endswith(".csv") else (data.decode("utf-8"), [])
+        text, places = traces.read_trace(data) if name.endswith(".csv") else (data.decode("utf-8"), None)
         source = casetext.read_source(text)
     except UnicodeDecodeError as error:
-        raise Misuse("%s %s" % (called_by, not_utf8(error))) from None
+        raise Misuse("%s %s" % (shown, not_utf8(error))) from None
     except casetext.Mistake as mistake:
-        raise Misuse("%s is no text of a case: %s" % (called_by, mistake)) from None
+        raise Misuse("%s is no text of a case: %s" % (shown, mistake)) from None
     lines = text.splitlines()
     texts = [" ".join(lines[number - 1].split("#", 1)[0].split()) for number in source.lines]
-    return Loaded(called_by, source.case.bytes(), source.case, "line", [place.line for place in places] or source.lines,
-                  texts, source.variables, source.conditions, [place.time for place in places])
+    return Loaded(shown, source.case.bytes(), source.case, "line", places or source.lines, texts, source.variables,
+                  source.conditions)
 
 
 def load_case(name, data):
@@ -103,11 +109,11 @@ def load_case(name, data):
 
 # The run
 
-def beginning(case, count):
-    """The case with its first accesses alone."""
+def beginning(case, count, more=()):
+    """The case with its first accesses alone, and more behind them."""
     found = CaseFile(case.n, case.w)
     found.nodes = case.nodes
-    found.accesses = case.accesses[:count]
+    found.accesses = case.accesses[:count] + list(more)
     return found
 
 
@@ -139,16 +145,6 @@ class Running:
             return keptorder.answers(self.diagrams, case, text)
         except (keptorder.Malformed, NotACondition) as wrong:
             raise Misuse("what the model printed is no text of this case: %s" % wrong) from None
-
-    def answers_to(self, case):
-        """The answers to another case of the same n and w; none where it is refused."""
-        if not self.engine.has_calls:
-            text = self.engine.case(case.bytes(), self.sizes).text
-            return [] if text is None else self.answers(case, text)
-        calls = self.engine.calls(case, self.sizes)
-        loaded = self.diagrams.load(calls.nodes[2:])
-        return [] if calls.row else [
-            called(loaded, access, "assert kept 1", step)[1] for access, step in zip(case.accesses, calls.steps)]
 
     def before_refusal(self, printed):
         """The answers before a refusal: those of the case without the accesses from the refused one on.  Its last line
@@ -199,12 +195,7 @@ class Running:
         return self.outcome.calls.nodes if self.outcome.calls else TERMINALS + self.case.nodes
 
     def label(self, number):
-        """Where an access stands, with its time in a trace."""
-        time = self.time(number)
-        return "%s %d" % (self.loaded.word, self.loaded.numbers[number]) + (" (time %s)" % shown(time) if time else "")
-
-    def time(self, number):
-        return self.loaded.times[number] if self.loaded.times else ""
+        return "%s %d" % (self.loaded.word, self.loaded.numbers[number])
 
     def accepted(self, printed):
         """How many accesses were accepted."""
@@ -233,25 +224,19 @@ class Report:
         self.readable = running.readable
         self.width = max(map(len, map(running.label, range(len(running.case.accesses)))), default=0) + 2
 
-    def lines(self, brief=False):
-        """Accesses, then the totals, and an empty line between them; of the accesses the refused one alone where the
-        lines are brief."""
-        begun = False
-        for line in itertools.chain([] if brief else self.access_lines(), self.refusal_lines()):
-            begun = True
-            yield line
-        rest = [*self.totals(), *self.length_lines()]
-        yield from [""] * (begun and bool(rest)) + rest
-
-    def access_lines(self):
-        """The lines of the accesses that were accepted."""
+    def lines(self):
+        running = self.running
         entries = 0
-        for number, answer in enumerate(self.running.outcome.answers):
+        for number, answer in enumerate(running.outcome.answers):
             added = self.added(number)
             yield self.head(number)
             for line in self.answer_lines(number, answer, entries, self.shown_added(added)):
                 yield " " * self.width + line
             entries += added[0]
+        if running.outcome.row is not None:
+            yield from self.refusal_lines()
+        yield from self.totals(entries)
+        yield from self.length_lines()
 
     def head(self, number):
         text = self.running.text(number)
@@ -293,10 +278,7 @@ class Report:
             yield "check condition %s%s" % (self.readable.condition(answer), added)
 
     def refusal_lines(self):
-        """What is said of a refusal, where there is one."""
         running = self.running
-        if running.outcome.row is None:
-            return
         number, row = running.outcome.accepted, running.outcome.row
         access = running.case.accesses[number] if number < len(running.case.accesses) else None
         indent = ""
@@ -316,10 +298,10 @@ class Report:
         running = self.running
         return archive.capacities(running.sizes, running.case.n, running.case.w) if running.engine.has_calls else None
 
-    def totals(self):
+    def totals(self, entries):
         if self.running.outcome.row in (1, 2) or len(self.running.outcome.answers) < self.running.outcome.accepted:
             return
-        entries = sum(self.added(number)[0] for number in range(len(self.running.outcome.answers)))
+        yield ""
         calls = self.running.outcome.calls
         if not calls:
             yield "entries: %d" % entries
@@ -334,11 +316,137 @@ class Report:
         past those are not the case's."""
         running = self.running
         length = len(running.loaded.data)
-        if length > INPUT_BYTES:
-            refuses = len(running.case.bytes()) != INPUT_BYTES
+        if length > MEMCASE_BYTES:
+            refuses = len(running.case.bytes()) != MEMCASE_BYTES
             yield "%s has %d bytes, and `memcase` reads the first %d%s" % (
-                "the file" if running.loaded.texts is None else "its case file", length, INPUT_BYTES,
+                "the file" if running.loaded.texts is None else "its case file", length, MEMCASE_BYTES,
                 ": it refuses this case" if refuses else "")
+
+
+# Witnesses
+
+class Witnesses:
+    """What is printed of conditions that are not 1."""
+
+    def __init__(self, running):
+        self.running = running
+        self.names, self.diagrams = running.names, running.diagrams
+
+    def lines(self):
+        running = self.running
+        answers, accesses = running.outcome.answers, running.case.accesses
+        asserted = witnesses.narrowed(self.diagrams, accesses, answers, ASSERT)
+        if asserted:
+            number, where = asserted
+            yield "the assert at %s admits a word that cannot be there, under %s" % (
+                running.label(number), self.shown(witnesses.fewest_values(self.diagrams, where)))
+        fallen = list(witnesses.falls(self.diagrams, accesses, answers))
+        if not fallen and any(access.kind == CHECK for access in accesses):
+            yield "every check holds, under every assignment"
+        for place, (number, where) in enumerate(fallen[:SHOWN_CHECKS]):
+            values = witnesses.fewest_values(self.diagrams, where)
+            yield "the check at %s fails under %s" % (running.label(number), self.shown(values))
+            if not place:
+                yield from ("  " + line for line in self.witness_lines(number, values))
+        if len(fallen) > SHOWN_CHECKS:
+            yield "and so do %d more checks, each somewhere where those before it hold" % (len(fallen) - SHOWN_CHECKS)
+
+    def shown(self, values):
+        if not values:
+            return "every assignment"
+        others = self.variables() - {variable for variable, _ in values}
+        return self.names.assignment(values) + (", whatever the other variables are" if others else "")
+
+    def variables(self):
+        """The variables of the case."""
+        return {variable for variable, _, _ in self.running.nodes()[2:] if variable >= USER_VARIABLE}
+
+    def witness_lines(self, number, values):
+        running = self.running
+        nodes = running.nodes()
+        accesses = running.case.accesses[:number + 1]
+        if any(node >= len(nodes) for access in accesses for node in nodes_of(access)):
+            yield "an access names a node that an access made: a plain run of it needs the archive; " + archive.BUILD
+            return
+        node_values = witnesses.node_values(nodes, witnesses.number_of(values))
+        events = [witnesses.event_of(node_values, access) for access in accesses]
+        word = self.word_there(number, values)
+        if word:
+            yield "the model's word at address %s is %s" % (events[-1].address, with_hexadecimal(word))
+        yield "the data admits %s" % with_hexadecimal(events[-1].data)
+        run = witnesses.find_run(events, running.case.w)
+        if run is None or not witnesses.shows_failure(running.case.n, events, run):
+            yield "no plain run shows it: what the model answered is wrong"
+        else:
+            yield from self.run_lines(events, run, values)
+
+    def word_there(self, number, values):
+        """The word that the model finds at the address of a check, by a read in the check's place; None where there is
+        no space for that."""
+        running = self.running
+        address = running.case.accesses[number].address
+        case = beginning(running.case, number, [Access(READ, ONE, address, [])])
+        text = running.engine.case(case.bytes(), running.sizes).text
+        if text is None:
+            return None
+        assignment = witnesses.number_of(values)
+        word = running.answers(case, text)[-1]
+        halves = [[self.diagrams.value(half, assignment) for half in pair] for pair in reversed(word)]
+        return "".join(witnesses.letter((0, 1), pair) for pair in halves)
+
+    def run_lines(self, events, run, values):
+        """A plain run: its start, the accesses that may touch the location, and the word found."""
+        others = sorted(self.variables() - {variable for variable, _ in values})
+        yield "a plain run%s:" % self.with_zeros(others)
+        yield "  the array starts with 0 in every location" + "".join(
+            ", but %s in location %d" % (word_text(word, self.running.case.w), location)
+            for location, word in run.start.items() if word)
+        touched = [number for number, event in enumerate(events[:-1]) if may_touch(event, run.location)]
+        if not touched:
+            yield "  no access before the check touches location %d" % run.location
+        if len(touched) > SHOWN_EVENTS:
+            yield "  of %d accesses that may touch location %d the last %d:" % (
+                len(touched), run.location, SHOWN_EVENTS)
+        for number in [*touched[-SHOWN_EVENTS:], len(events) - 1]:
+            yield "  %s: %s" % (self.running.label(number), step_text(events[number], run.choices[number], run.word))
+
+
+    def with_zeros(self, others):
+        if len(others) > SHOWN_ZEROS:
+            return ", with 0 for every other variable"
+        return ", with " + self.names.assignment([(variable, 0) for variable in others]) if others else ""
+
+
+def step_text(event, choice, found):
+    """What a run does at an access that may store, or at the check, which finds a word."""
+    taken = []
+    if event.control == "X":
+        taken.append("its enable X taken as %d" % choice.enable)
+    if choice.enable and "X" in event.address:
+        bits = format(choice.location, "0%db" % len(event.address))
+        taken.append("its address %s taken as %s" % (event.address, bits))
+    if choice.enable and event.kind != CHECK and "X" in event.data:
+        taken.append("its data %s taken as %s" % (event.data, word_text(choice.word, len(event.data))))
+    if event.kind == CHECK:
+        does = "finds %s in" % word_text(found, len(event.data))
+    else:
+        does = "stores %s in" % word_text(choice.word, len(event.data)) if choice.enable else "stores nothing in"
+    return "%s: %s location %d" % (", ".join([NAMES[event.kind], *taken]), does, choice.location)
+
+
+def may_touch(event, location):
+    return witnesses.stores(event) and witnesses.admits(event.address, location)
+
+
+def word_text(word, w):
+    """A word in bits, and a wide one in hexadecimal too."""
+    return with_hexadecimal(format(word, "0%db" % w))
+
+
+def with_hexadecimal(letters):
+    if len(letters) < WIDE or "X" in letters:
+        return letters
+    return "%s = 0x%0*x" % (letters, (len(letters) + 3) // 4, int(letters, 2))
 
 
 # Pictures
@@ -417,9 +525,6 @@ def parser_of():
     parser.add_argument("--text", type=int, default=archive.Sizes().text, metavar="BYTES",
                         help="space for the text (65536)")
     parser.add_argument("--full", action="store_true", help="long conditions whole")
-    parser.add_argument("--brief", action="store_true", help="the totals and the checks that fail alone")
-    parser.add_argument("--json", metavar="FILE",
-                        help="write what came of it for programs; - is standard output, with nothing else")
     parser.add_argument("--dot", metavar="WHAT", help="write a condition as a graph for Graphviz")
     parser.add_argument("--svg", metavar="WHAT", help="write a condition as a picture")
     parser.add_argument("-o", dest="output", metavar="FILE", help="where --dot or --svg writes (standard output)")
@@ -430,33 +535,21 @@ def parser_of():
     return parser
 
 
-def show(report, witnessed, missing, brief):
-    """Print what came of a case."""
-    for line in report.lines(brief):
+def show(running, missing):
+    """Print what came of a case; the status to end with."""
+    for line in Report(running).lines():
         say(line)
     if missing:
         say("node counts are not known, and sizes cannot be given: %s" % missing)
-    if report.running.outcome.row is not None:
-        return
+    if running.outcome.row is not None:
+        return 3
     try:
-        for line in witnessed.lines():
+        for line in Witnesses(running).lines():
             say(line)
     except TooLarge:
         say("the conditions are too large to look for an assignment under which a check fails")
-
-
-def tell(running, missing, options):
-    """Tell what came of a case, as is asked for; the status to end with."""
-    report, witnessed = Report(running), Witnesses(running)
-    status = 3 if running.outcome.row is not None else int(witnessed.checks.fail)
-    if options.json is not None:
-        text = runfile.as_text(report, witnessed, status)
-        if options.json == "-":
-            sys.stdout.write(text)
-            return status
-        write_file(options.json, text)
-    show(report, witnessed, missing, options.brief)
-    return status
+    checks = [answer for access, answer in zip(running.case.accesses, running.outcome.answers) if access.kind == CHECK]
+    return 1 if checks and checks[-1] != TRUE else 0
 
 
 def work(options, find):
@@ -466,13 +559,11 @@ def work(options, find):
     drawn = [what for what in (options.dot, options.svg) if what is not None]
     if len(drawn) > 1 or options.output is not None and not drawn:
         raise Misuse("-o goes with one of --dot and --svg")
-    if drawn and (options.json is not None or options.brief):
-        raise Misuse("--dot and --svg write a condition and nothing else: leave --json and --brief out")
     loaded = load(options.file)
     engine, missing = find(options.archive or [], options.memcase, options.seconds)
     running = Running(loaded, engine, sizes, options.full)
     if not drawn:
-        return tell(running, missing, options)
+        return show(running, missing)
     write_out(draw(running, options), options.output)
     return 0
 

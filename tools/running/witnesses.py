@@ -205,9 +205,7 @@ def replay(n, events, run):
     array = [run.start.get(location, 0) for location in range(1 << n)]
     held = [0] * PORTS
     found = None
-    if len(events) != len(run.choices):
-        raise NotARun("a run has a choice for each event")
-    for number, (event, choice) in enumerate(zip(events, run.choices)):
+    for number, (event, choice) in enumerate(zip(events, run.choices, strict=True)):
         need_admitted(number, event, choice)
         found = array[choice.location]
         if stores(event) and choice.enable:

@@ -11,12 +11,13 @@ from collections import namedtuple
 
 from common.casefile import NotACaseFile, parse
 from common.diagrams import FALSE, TRUE, Diagrams
-from common.files import read_bytes
-from common.simulatorruns import Misuse
-from language import casetext, traces
+from common.simulatorruns import Misuse, read_at_most
+from language import casetext
 from papers import CHECK, ENABLED, NAMES, USER_VARIABLE, Access
 from second.tables import is_standard
 
+# The largest case file has 7,000,000 bytes.
+INPUT_BYTES = 1 << 24
 SHOWN_BYTES = 300
 
 UNDER_ALL = "under every assignment"
@@ -31,17 +32,18 @@ Change = namedtuple("Change", "access field first second where sharper")
 
 # What is given
 
+def read_bytes(path):
+    return read_at_most(path, INPUT_BYTES, ": no case and no text of one is")
+
+
 def read_source(path):
-    """The case of a file.  The accesses of a trace have its own lines, and so no text."""
-    if not path.endswith((".txt", ".csv", ".case")):
-        raise Misuse("%s: name it .txt, for a text of casetext.py, .csv, for a trace, or .case, for a case file" % path)
+    """The case of a file."""
+    if not path.endswith((".txt", ".case")):
+        raise Misuse("%s: name it .txt, for a text of casetext.py, or .case, for a case file" % path)
     data = read_bytes(path)
     try:
         if path.endswith(".case"):
             return Source(path, parse(data))
-        if path.endswith(".csv"):
-            text, places = traces.read_trace(data)
-            return Source(path, casetext.read_text(text)[0], [place.line for place in places])
         text = data.decode("utf-8")
         return Source(path, *casetext.read_text(text), text)
     except UnicodeDecodeError:
