@@ -2,91 +2,64 @@
 #![tactic(auto)]
 
 ghost use Rattle.std.specs.Prelude.{◌≡◌, ◌+◌, ◌*◌, ◌<◌, ◌≤◌, length};
-ghost use Rattle.conditions.specs.Contract.{Sound, Did};
+ghost use Rattle.conditions.specs.Builder.{Did};
 ghost use Rattle.model.specs.Access.{unique_bit, Unique, narrow_bit, Narrow};
 ghost use Rattle.addresses.specs.Contract.{Nodes, address_pair};
 
-use conditions::{Built, Store, Table};
-use model::AddressNode;
-
-#[derive(Clone, Copy)]
-pub struct AddressPair {
-    pub h: AddressNode,
-    pub l: AddressNode,
-}
+use conditions::Builder;
+use model::{AddressNode, Pair};
 
 // Pair i of an address.
-pub fn address_pair(address: &[u32], i: usize) -> AddressPair
+pub fn address_pair(address: &[u32], i: usize) -> Pair<AddressNode>
     requires { 2 * i + 1 < length address.now }
     ensures { result ≡ address_pair address.now i }
 {
     let at = 2 * i;
-    AddressPair {
+    Pair {
         h: AddressNode(address[at]),
         l: AddressNode(address[at + 1]),
     }
 }
 
 // And(u, Not And(a.h, a.l))
-fn unique_bit(words: &mut [u32], table: &mut Table, s: Store, a: AddressPair, u: u32) -> Built
-    requires { Sound words.old table.old s × (a.h.0 < s.count) × (a.l.0 < s.count) × (u < s.count) }
-    ensures { Did s words.new table.new result (unique_bit a.h.0 a.l.0 u words.old s) }
+fn unique_bit(build: &mut Builder, a: Pair<AddressNode>, u: u32) -> u32
+    requires { (a.h.0 < build.old.store.count) × (a.l.0 < build.old.store.count) × (u < build.old.store.count) }
+    ensures { Did build.old build.new result (unique_bit a.h.0 a.l.0 u) }
 {
-    let x = conditions::and(words, table, s, a.h.0, a.l.0);
-    let y = conditions::not(words, table, x.store, x.node);
-    conditions::and(words, table, y.store, u, y.node)
+    let x = build.and(a.h.0, a.l.0);
+    let y = build.not(x);
+    build.and(u, y)
 }
 
 // That no bit of an address is X.
-pub fn unique(words: &mut [u32], table: &mut Table, s: Store, n: usize, address: &[u32]) -> Built
-    requires { Sound words.old table.old s × (n ≤ 8) × (length address.now ≡ 2 * n) × Nodes s.count address.now }
-    ensures { Did s words.new table.new result (Unique n address.now words.old s) }
+pub fn unique(build: &mut Builder, n: usize, address: &[u32]) -> u32
+    requires { (n ≤ 8) × (length address.now ≡ 2 * n) × Nodes build.old.store.count address.now }
+    ensures { Did build.old build.new result (Unique n address.now) }
 {
-    let mut b = Built { store: s, node: 1 };
-    let mut i = 0;
-    while i < n {
-        let a = address_pair(address, i);
-        b = unique_bit(words, table, b.store, a, b.node);
-        i += 1;
+    let mut u = 1;
+    for i in 0..n {
+        u = unique_bit(build, address_pair(address, i), u);
     }
-    b
+    u
 }
 
 // And(m, Ite(index i, a.h, a.l))
-fn narrow_bit(
-    words: &mut [u32],
-    table: &mut Table,
-    s: Store,
-    i: u32,
-    a: AddressPair,
-    m: u32,
-) -> Built
-    requires { Sound words.old table.old s × (i < 64) × (a.h.0 < s.count) × (a.l.0 < s.count) × (m < s.count) }
-    ensures { Did s words.new table.new result (narrow_bit i a.h.0 a.l.0 m words.old s) }
+fn narrow_bit(build: &mut Builder, i: u32, a: Pair<AddressNode>, m: u32) -> u32
+    requires { (i < 64) × (a.h.0 < build.old.store.count) × (a.l.0 < build.old.store.count) × (m < build.old.store.count) }
+    ensures { Did build.old build.new result (narrow_bit i a.h.0 a.l.0 m) }
 {
-    let x = conditions::variable(words, table, s, i);
-    let t = conditions::ite(words, table, x.store, x.node, a.h.0, a.l.0);
-    conditions::and(words, table, t.store, m, t.node)
+    let x = build.variable(i);
+    let t = build.ite(x, a.h.0, a.l.0);
+    build.and(m, t)
 }
 
-// A condition, where each bit of an address admits the index's.
-pub fn narrow(
-    words: &mut [u32],
-    table: &mut Table,
-    s: Store,
-    n: usize,
-    address: &[u32],
-    m: u32,
-) -> Built
-    requires { Sound words.old table.old s × (n ≤ 8) × (length address.now ≡ 2 * n) × Nodes s.count address.now × (m < s.count) }
-    ensures { Did s words.new table.new result (Narrow n address.now m words.old s) }
+// A condition m, where each bit of an address admits the index's.
+pub fn narrow(build: &mut Builder, n: usize, address: &[u32], mut m: u32) -> u32
+    requires { (n ≤ 8) × (length address.now ≡ 2 * n) × Nodes build.old.store.count address.now × (m < build.old.store.count) }
+    ensures { Did build.old build.new result (Narrow n address.now m) }
 {
-    let mut b = Built { store: s, node: m };
-    let mut i = 0;
-    while i < n {
-        let a = address_pair(address, i);
-        b = narrow_bit(words, table, b.store, i as u32, a, b.node);
-        i += 1;
+    for i in 0..n {
+        m = narrow_bit(build, i as u32, address_pair(address, i), m);
     }
-    b
+    m
 }

@@ -1,8 +1,5 @@
 -- An assert by its rows, and its entry.
-use mathlib.Core.Path.{◌≡◌, refl, sym, ap, ◌∙◌}
-use mathlib.Core.Bool.{Bool, false, cond, not}
-use mathlib.Core.List.{List, [], ◌∷◌}
-use Prim.Native.Nat.{ℕ, ◌<◌, ◌≤◌}
+use Rattle.std.proofs.Common.{◌≡◌, refl, sym, ap, ◌∙◌, Bool, false, cond, not, List, [], ◌∷◌, ℕ, ◌<◌, ◌≤◌}
 use Rattle.nodes.specs.Search.{every}
 use Rattle.conditions.specs.Stores.{clear_of}
 use Rattle.conditions.specs.Build.{Outcome}
@@ -21,9 +18,9 @@ use Rattle.rows.specs.Contract.{state_of}
 use Rattle.rows.proofs.CallLaws.{slice-nodes, facts-look}
 
 -- where the rows of a check pass, 7 is what is left
-pub assert_row_is : (r : Fields) (w l : List ℕ) (b : ℕ) (a d : List ℕ) {k : ℕ} → k ≡ first_row (check_rows r w l b a d) → k ≡ 0
+pub assert_row_is : (r : Fields) (w l : List ℕ) (b : ℕ) (a d : List ℕ) → 0 ≡ first_row (check_rows r w l b a d)
     → first_row (assert_rows r w l b a d) ≡ cond (every (λ (i : ℕ). not (together w b (h_at a i) (l_at a i))) 0 r.sizes.n) 0 7
-assert_row_is r w l b a d e z = first-append (check_rows r w l b a d) ((7, every (λ (i : ℕ). not (together w b (h_at a i) (l_at a i))) 0 r.sizes.n) ∷ []) refl (sym e ∙ z)
+assert_row_is r w l b a d e = first-append (check_rows r w l b a d) ((7, every (λ (i : ℕ). not (together w b (h_at a i) (l_at a i))) 0 r.sizes.n) ∷ []) refl (sym e)
 
 -- what its rows leave; and of its programs, before the entry and for it, that clearing after them is clearing the words at entry
 pub record AssertHolds (r : Fields) (w l : List ℕ) (b : ℕ) (a d : List ℕ) : Type 0 where
@@ -37,10 +34,10 @@ pub record AssertHolds (r : Fields) (w l : List ℕ) (b : ℕ) (a d : List ℕ) 
   pub entry-clears : (x : Outcome built.AssertBuilt) → x ≡ built.Assert r l b a d w (begin r)
       → clear_of (built.Write r.sizes.n b x.answer.not_b a x.words (record { count = x.store.count; full = false })).words r.count ≡ clear_of w r.count
 
-pub assert-holds : (r : Fields) (w l : List ℕ) (b : ℕ) (a d : List ℕ) {k : ℕ} → k ≡ first_row (assert_rows r w l b a d) → k ≡ 0 → AssertHolds r w l b a d
-assert-holds r w l b a d e z =
+pub assert-holds : (r : Fields) (w l : List ℕ) (b : ℕ) (a d : List ℕ) → 0 ≡ first_row (assert_rows r w l b a d) → AssertHolds r w l b a d
+assert-holds r w l b a d e =
     let s = state_of r w l in
-    let F = (assert-facts s b a d (sym e ∙ z)).compared in
+    let F = (assert-facts s b a d (sym e)).compared in
     let σ : ℕ → Bool = λ k. false in
     record {
       few = F.memory.range.n-most;

@@ -5,8 +5,8 @@ ghost use Rattle.std.specs.Prelude.{◌≡◌, []};
 ghost use Rattle.model.specs.Step.{write, read, assert, check, access};
 ghost use Rattle.record_words.specs.Calls.{left, called};
 
+use assert_access::Asserted;
 use building::ControlNode;
-use memory::{AssertAnswer, CheckAnswer, ReadAnswer, WriteAnswer};
 use record_words::RecordWords;
 
 // Write: the place of the entry, or 4294967295 for an idle write.
@@ -25,15 +25,11 @@ pub fn md_write(
     record_words::put_record(record, x.after);
     let answer = x.answer;
     match answer {
-        WriteAnswer::Entered(k) => {
-            *place = k;
+        Ok(entered) => {
+            *place = entered.unwrap_or(4294967295);
             0
         }
-        WriteAnswer::Idle => {
-            *place = 4294967295;
-            0
-        }
-        WriteAnswer::Refused(k) => k,
+        Err(refusal) => refusal.number(),
     }
 }
 
@@ -52,8 +48,8 @@ pub fn md_check(
     record_words::put_record(record, x.after);
     let answer = x.answer;
     match answer {
-        CheckAnswer::Accepted => 0,
-        CheckAnswer::Refused(k) => k,
+        Ok(()) => 0,
+        Err(k) => k.number(),
     }
 }
 
@@ -73,15 +69,11 @@ pub fn md_assert(
     record_words::put_record(record, x.after);
     let answer = x.answer;
     match answer {
-        AssertAnswer::Entered => {
-            *entered = 1;
+        Ok(asserted) => {
+            *entered = u32::from(matches!(asserted, Asserted::Entered));
             0
         }
-        AssertAnswer::Kept => {
-            *entered = 0;
-            0
-        }
-        AssertAnswer::Refused(k) => k,
+        Err(k) => k.number(),
     }
 }
 
@@ -102,7 +94,7 @@ pub fn md_read(
     record_words::put_record(record, x.after);
     let filled = x.answer;
     match filled {
-        ReadAnswer::Filled => 0,
-        ReadAnswer::Refused(k) => k,
+        Ok(()) => 0,
+        Err(k) => k.number(),
     }
 }

@@ -6,7 +6,6 @@ ghost use Rattle.formula_calls.specs.Call.{asserting, checking};
 ghost use Rattle.formula_words.specs.Contract.{left_formula, formula_called};
 ghost use Rattle.capi_cases.specs.Contract.{left_case, cased};
 
-use casefile::CaseAnswer;
 use record_words::RecordWords;
 
 // Asserts by a written formula.
@@ -58,16 +57,15 @@ pub fn md_case(
 ) -> u32
     ensures { left_case result nodes.new list.new text.new «record».new count.new ≡ cased case.now nodes.old list.old text.old «record».old }
 {
-    let answer = casefile::run_case(case, nodes, list, text);
-    match answer {
-        CaseAnswer::Done { length, memory } => {
-            record_words::put_record(record, memory);
-            *count = length as u64;
+    match casefile::run_case(case, nodes, list, text) {
+        Ok(done) => {
+            record_words::put_record(record, done.memory);
+            *count = done.length as u64;
             0
         }
-        CaseAnswer::Refused { number, after } => {
-            *count = after as u64;
-            number
+        Err(refused) => {
+            *count = u64::from(refused.after);
+            refused.refusal.number()
         }
     }
 }

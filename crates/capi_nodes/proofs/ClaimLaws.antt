@@ -2,7 +2,7 @@
 use mathlib.Core.Path.{◌≡◌, refl, sym, ap, ◌∙◌}
 use mathlib.Core.Bool.{Bool, true, false, cond}
 use mathlib.Core.List.{List, [], ◌∷◌, ◌++◌}
-use mathlib.Core.Logic.{◌⊎◌, inl, inr, ⊎_elim}
+use mathlib.Core.Logic.{inl, inr, ⊎_elim}
 use Prim.Native.Nat.{ℕ, zero, suc}
 use native.Mathlib.Omega.{arith}
 use lib.Dec.{ltb, leb, eqb}
@@ -75,8 +75,8 @@ unfolding TextsExactly
 texts-exactly f r w b v f' r' w' b' v' e e' =
     let A = text-accepted f r w b v e in
     let B = text-accepted f' r' w' b' v' e' in
-    let H = evaluate-holds (record_in r) w f (sym A.0) refl in
-    let K = evaluate-holds (record_in r') w' f' (sym B.0) refl in
+    let H = evaluate-holds (record_in r) w f (sym A.0) in
+    let K = evaluate-holds (record_in r') w' f' (sym B.0) in
     rw (A.1, B.1) (text-exactly H.0 K.0 f f' H.1 K.1)
 
 witness-accepted : (k a v : ℕ) → (witness_by k a v).0 ≡ 0 → (k ≡ 0) × ((witness_by k a v).1 ≡ a)
@@ -85,13 +85,13 @@ witness-accepted (suc k) a v e = absurd (omega (arith, e))
 
 evaluated_there : (f φ : ℕ) (r w : List ℕ) (u : ℕ) → row_of f r w ≡ 0 → evaluated f φ r w u ≡ (0, cond (value w (bit_at φ) f) 1 0)
 unfolding evaluated called finish_node closed
-evaluated_there f φ r w u e = ap (λ (x : Result). evaluated_by (left_by x [] u)) (node_acted (evaluate f φ) (state_in r w [] []) refl e)
+evaluated_there f φ r w u e = ap (λ (x : Result). evaluated_by (left_by x [] u)) (node_acted (evaluate f φ) (state_in r w [] []) (sym e))
 
 pub witness-tells : WitnessHolds
 unfolding WitnessHolds witnessed HoldsThere
 witness-tells f r w v u e =
     let A = witness-accepted (row_of f r w) (witness_of w f) v e in
-    let H = evaluate-holds (record_in r) w f (sym A.0) refl in
+    let H = evaluate-holds (record_in r) w f (sym A.0) in
     ⊎_elim
     (λ t. inl (ap (λ (φ : ℕ). evaluated f φ r w u) A.1 ∙ evaluated_there f (witness_of w f) r w u A.0 ∙ ap (λ (x : Bool). (0, cond x 1 0)) t))
     (λ z. inr z)

@@ -7,10 +7,10 @@ ghost use Rattle.model.specs.Step as step;
 ghost use Rattle.record_words.specs.Calls.{left, called};
 ghost use Rattle.capi_nodes.specs.Contract.{evaluated, freshed, left_text, texted, witnessed};
 
-use memory::{FreshAnswer, NodeAnswer, ValueAnswer};
 use record_words::RecordWords;
+use refusals::Refusal;
 use semantics::Sizes;
-use text::Text;
+use text::Writer;
 
 // Fresh.
 pub fn md_fresh(
@@ -22,13 +22,12 @@ pub fn md_fresh(
 ) -> u32
     ensures { (result, «record».new, nodes.new, ports.new) ≡ freshed n w «record».old nodes.old ports.old }
 {
-    let z = Sizes { n, w };
-    let x = record_words::record_of(record).fresh(nodes, ports, z);
+    let x = record_words::record_of(record).fresh(nodes, ports, Sizes { n, w });
     record_words::put_record(record, x.after);
     let answer = x.answer;
     match answer {
-        FreshAnswer::Accepted => 0,
-        FreshAnswer::Refused(k) => k,
+        Ok(()) => 0,
+        Err(refusal) => refusal.number(),
     }
 }
 
@@ -45,11 +44,11 @@ pub fn md_variable(
     record_words::put_record(record, x.after);
     let answer = x.answer;
     match answer {
-        NodeAnswer::Node(k) => {
+        Ok(k) => {
             *node = k;
             0
         }
-        NodeAnswer::Refused(k) => k,
+        Err(k) => k.number(),
     }
 }
 
@@ -68,11 +67,11 @@ pub fn md_ite(
     record_words::put_record(record, x.after);
     let answer = x.answer;
     match answer {
-        NodeAnswer::Node(k) => {
+        Ok(k) => {
             *node = k;
             0
         }
-        NodeAnswer::Refused(k) => k,
+        Err(k) => k.number(),
     }
 }
 
@@ -89,11 +88,11 @@ pub fn md_evaluate(
     let x = record_words::record_of(record).evaluate(nodes, node, assignment);
     let answer = x.answer;
     match answer {
-        ValueAnswer::Value(b) => {
-            *value = b as u32;
+        Ok(b) => {
+            *value = u32::from(b);
             0
         }
-        ValueAnswer::Refused(k) => k,
+        Err(k) => k.number(),
     }
 }
 
@@ -107,16 +106,17 @@ pub fn md_text(
 ) -> u32
     ensures { left_text result text.new length.new ≡ texted node «record».now nodes.now text.old length.old }
 {
-    let r = record_words::record_of(record);
-    let fields = r.fields;
-    let row = node_calls::evaluate_row(fields, nodes, node);
-    if row != 0 {
-        return row;
-    }
-    let t = conditions::put_condition(text, Text { at: 0, full: false }, nodes, fields.count, node);
+    let r = record_words::record_of(record).fields;
+    let d = match node_calls::evaluate_row(r, nodes, node) {
+        Ok(d) => d,
+        Err(row) => return row.number(),
+    };
+    let mut w = Writer::new(text);
+    conditions::put_condition(&mut w, d, node);
+    let t = w.text;
     if t.full {
-        zeros::zero_bytes(text);
-        return 13;
+        text.fill(0);
+        return Refusal::BufferShort.number();
     }
     *length = t.at as u64;
     0
@@ -126,12 +126,12 @@ pub fn md_text(
 pub fn md_witness(record: &RecordWords, nodes: &[u32], node: u32, assignment: &mut u64) -> u32
     ensures { (result, assignment.new) ≡ witnessed node «record».now nodes.now assignment.old }
 {
-    let r = record_words::record_of(record);
-    let fields = r.fields;
-    let k = node_calls::evaluate_row(fields, nodes, node);
-    if k != 0 {
-        return k;
+    let r = record_words::record_of(record).fields;
+    match node_calls::evaluate_row(r, nodes, node) {
+        Ok(d) => {
+            *assignment = conditions::witness(d, node);
+            0
+        }
+        Err(k) => k.number(),
     }
-    *assignment = conditions::witness(nodes, fields.count, node);
-    0
 }

@@ -1,63 +1,51 @@
 -- The access at a place of the file.
-use mathlib.Core.Path.{◌≡◌, sym, ap, subst, ◌∙◌}
-use mathlib.Core.List.{List}
-use Prim.Native.Nat.{ℕ, ◌+◌}
-use native.Mathlib.Omega.{arith}
-use lib.ListN.{get_or}
+use Rattle.std.proofs.Common.{◌≡◌, sym, ap, subst, ◌∙◌, Bool, true, false, cond, List, ℕ, ◌+◌, get_or, Result, Ok, Err}
+use Rattle.refusals.specs.declared.Refusal.{Refusal}
+use Rattle.refusals.specs.Refusal.{number}
 use Rattle.format.specs.declared.Kind.{Kind}
-use Rattle.reading.specs.declared.Progress.{Progress}
-use Rattle.reading.specs.declared.Access.TheVariants as access
 use Rattle.format.specs.Bytes.{numbers_at}
 use Rattle.format.specs.Fields.{fields_of, values_at}
-use Rattle.format.specs.Accesses.{Found, found, held_at, end_of, access_at, goes_on_from}
+use Rattle.format.specs.Accesses.{Found, held_at, access_at, goes_on}
 use Rattle.format.specs.Accesses as accesses
+use Rattle.reading.specs.declared.Access.{Access}
 use Rattle.reading.specs.Layout.{lead_of, port_of, size_of, told}
-use Rattle.reading.specs.Contract.{answer_of, Finds}
-use Rattle.reading.proofs.FindLaws.{access_here}
+use Rattle.reading.proofs.FindLaws.{Stands}
 use Rattle.case_access.proofs.ToldLaws.{call-told}
 use Rattle.cases.specs.Case.{Running, stops, call_of, done, done_as, one, Next, goes, said, given_line}
-use Rattle.case_entries.specs.declared.Step.{Step}
+use Rattle.case_entries.specs.declared.Run.{Run}
 use Rattle.case_entries.specs.Contract.{StepAs, next_of, PortsReadyNext}
-use mathlib.Core.Bool.{Bool, true, false, cond}
+use Rattle.text.specs.declared.Writer.{Writer}
 use Rattle.text.specs.Text.{Out, appended}
 use Rattle.model.specs.Step as model
-use Rattle.case_entries.specs.declared.Step.TheVariants as steps
 use Rattle.model.specs.Step.{State, Call, Answer, step}
 use Rattle.model.specs.Frames.{Valid, PortsValid, PortsStayValid}
 use Rattle.model.proofs.FrameLaws.{ports_stay-valid}
 
-module _ (file : List ℕ) (c : Running) (p : Progress) (F : Finds p file c.at c.state.rec.sizes.n c.state.rec.sizes.w) where
-  pub one-missing : {k : ℕ} → p.access ≡ access.Refused k → stops k ≡ one file c
+module _ (file : List ℕ) (c : Running) where
+  -- none is found
+  pub one-missing : {k : Refusal} → access_at file c.at c.state.rec.sizes.n c.state.rec.sizes.w ≡ accesses.refused (number k) → {r : Result Run Refusal} → r ≡ Err k → {w l table ps : List ℕ} {b : Writer} → StepAs r w l b table ps (one file c) × PortsReadyNext r w l ps
   unfolding one
-  one-missing {k} e = go (access_at file c.at c.state.rec.sizes.n c.state.rec.sizes.w) (sym e ∙ F.0)
-    where
-      go : (x : Found) → access.Refused k ≡ answer_of file c.at x → stops k ≡ done_as x (goes_on_from x (end_of file c.at c.state.rec.sizes.n c.state.rec.sizes.w) c.at) c.state c.text
-      go (found kind values) z = let u : ◌≡◌ {A = ℕ} 0 1 = cc in absurd (omega arith)
-      go (accesses.refused i) z = let u : k ≡ i = cc in ap stops u
+  one-missing {k} e q = rw q (record { is = sym (ap (λ (x : Found). done_as x (goes_on file c.at c.state.rec.sizes.n c.state.rec.sizes.w) c.state c.text) e); ready = tt }, tt)
 
   -- the call by the nodes from a byte on
-  abbrev called_by : Kind → ℕ → ℕ → ℕ → Call
-  called_by k q from size = call_of k c.state.rec.sizes.w (told k c.state.rec.sizes.n c.state.rec.sizes.w q (numbers_at file from size))
+  abbrev called_by : Kind → ℕ → List ℕ → Call
+  called_by k q ops = call_of k c.state.rec.sizes.w (told k c.state.rec.sizes.n c.state.rec.sizes.w q ops)
 
-  one_here : {k : Kind} {q from : ℕ} → p.access ≡ access.Here k q from
-      → done (called_by k q from (size_of k c.state.rec.sizes.n c.state.rec.sizes.w)) c.state p.at c.text ≡ one file c
-  unfolding one
-  one_here {k} {q} {from} e =
-      let n = c.state.rec.sizes.n in
-      let w = c.state.rec.sizes.w in
-      let S = access_here file c.at n w e F.0 in
-      let port : q ≡ port_of k (get_or file (c.at + 1) 0) = S.port_is ∙ ap (λ (x : Kind). port_of x (get_or file (c.at + 1) 0)) (sym S.kind_is) in
-      let begin : from ≡ c.at + 1 + lead_of k = S.from_is ∙ ap (λ (x : Kind). c.at + 1 + lead_of x) (sym S.kind_is) in
-      let fields : call_of k w (values_at file (c.at + 1) (fields_of k n w)) ≡ call_of k w (held_at file c.at n w) = ap (λ (x : Kind). call_of k w (values_at file (c.at + 1) (fields_of x n w))) S.kind_is in
-      let call : called_by k q from (size_of k n w) ≡ call_of k w (held_at file c.at n w) = (λ i. called_by k (port i) (begin i) (size_of k n w)) ∙ call-told file (c.at + 1) n w k ∙ fields in
-      ap (λ (x : Call). done x c.state p.at c.text) call
-      ∙ ap (λ (x : Found). done_as x p.at c.state c.text) (sym S.is)
-      ∙ ap (λ (i : ℕ). done_as (access_at file c.at n w) i c.state c.text) F.1
+  module _ {a : Access} (S : Stands file c.at c.state.rec.sizes.n c.state.rec.sizes.w a) {at : ℕ} (g : at ≡ goes_on file c.at c.state.rec.sizes.n c.state.rec.sizes.w) {size : ℕ} (z : size ≡ size_of a.kind c.state.rec.sizes.n c.state.rec.sizes.w) {ops : List ℕ} (o : ops ≡ numbers_at file a.from size) where
+    one_here : done (called_by a.kind a.port ops) c.state at c.text ≡ one file c
+    unfolding one
+    one_here =
+        let n = c.state.rec.sizes.n in
+        let w = c.state.rec.sizes.w in
+        let k = a.kind in
+        let port : a.port ≡ port_of k (get_or file (c.at + 1) 0) = S.port_is ∙ ap (λ (x : Kind). port_of x (get_or file (c.at + 1) 0)) (sym S.kind_is) in
+        let begin : a.from ≡ c.at + 1 + lead_of k = S.from_is ∙ ap (λ (x : Kind). c.at + 1 + lead_of x) (sym S.kind_is) in
+        let fields : call_of k w (values_at file (c.at + 1) (fields_of k n w)) ≡ call_of k w (held_at file c.at n w) = ap (λ (x : Kind). call_of k w (values_at file (c.at + 1) (fields_of x n w))) S.kind_is in
+        let call : called_by k a.port ops ≡ call_of k w (held_at file c.at n w) = ap (called_by k a.port) o ∙ (λ i. called_by k (port i) (numbers_at file (begin i) (z i))) ∙ call-told file (c.at + 1) n w k ∙ fields in
+        (λ i. done (call i) c.state (g i) c.text) ∙ ap (λ (x : Found). done_as x (goes_on file c.at n w) c.state c.text) (sym S.is)
 
-  pub step_here : {k : Kind} {q from : ℕ} → p.access ≡ access.Here k q from → (size : ℕ) → size ≡ size_of k c.state.rec.sizes.n c.state.rec.sizes.w → {r : Step} {w l b table ps : List ℕ}
-      → StepAs r w l b table ps (done (called_by k q from size) c.state p.at c.text) → StepAs r w l b table ps (one file c)
-  step_here {k} {q} {from} e size z {r} {w} {l} {b} {table} {ps} C =
-      subst (StepAs r w l b table ps) (ap (λ (i : ℕ). done (called_by k q from i) c.state p.at c.text) z ∙ one_here e) C
+    pub step_here : {r : Result Run Refusal} {w l table ps : List ℕ} {b : Writer} → StepAs r w l b table ps (done (called_by a.kind a.port ops) c.state at c.text) → StepAs r w l b table ps (one file c)
+    step_here {r} {w} {l} {table} {ps} {b} C = subst (StepAs r w l b table ps) one_here C
 
 -- after an access row 3 refuses no port to a read, where it refused none before
 abbrev NextPorts : Next → Type 0
@@ -77,12 +65,12 @@ module _ (c : Call) (s : State) (at : ℕ) (o : Out) (K : Valid s) (P : PortsVal
       go (model.refused k) = tt
       go (model.done g) = let t = appended (given_line g (step c s).after) o in fits t.text.full t
 
-  ports-next : (w l b ps : List ℕ) (r : Step) → next_of r w l b ps ≡ done c s at o → PortsReadyNext r w l ps
+  ports-next : (w l : List ℕ) (b : Writer) (ps : List ℕ) (r : Result Run Refusal) → next_of r w l b ps ≡ done c s at o → PortsReadyNext r w l ps
   ports-next w l b ps r e = back r (subst NextPorts (sym e) next-ports)
     where
-      back : (r : Step) → NextPorts (next_of r w l b ps) → PortsReadyNext r w l ps
-      back (steps.On d) p = p
-      back (steps.Refused k) p = tt
+      back : (r : Result Run Refusal) → NextPorts (next_of r w l b ps) → PortsReadyNext r w l ps
+      back (Ok d) p = p
+      back (Err k) p = tt
 
-pub step-ports : (c : Call) {s : State} (at : ℕ) (o : Out) → Valid s → PortsValid s → {r : Step} {w l b table ps : List ℕ} → StepAs r w l b table ps (done c s at o) → PortsReadyNext r w l ps
-step-ports c {s} at o K P {r} {w} {l} {b} {table} {ps} C = ports-next c s at o K P w l b ps r C.is
+pub step-ports : (c : Call) {s : State} (at : ℕ) (o : Out) → Valid s → PortsValid s → {r : Result Run Refusal} {w l table ps : List ℕ} {b : Writer} → StepAs r w l b table ps (done c s at o) → PortsReadyNext r w l ps
+step-ports c {s} at o K P {r} {w} {l} {table} {ps} {b} C = ports-next c s at o K P w l b ps r C.is

@@ -1,9 +1,8 @@
 // An access of a case, at its place in the file: the kind byte selects the operation.
 #![tactic(auto)]
 
-ghost use Rattle.std.specs.Prelude.{◌≡◌, true, ◌+◌, ◌*◌, ◌≤◌, length};
-ghost use Rattle.text.specs.Text.{out};
-ghost use Rattle.format.specs.Bytes.{numbers_at};
+ghost use Rattle.std.specs.Prelude.{◌≡◌, true, length};
+ghost use Rattle.text.specs.Writer.{out_of, SameBuffer};
 ghost use Rattle.format.specs.Kinds.{is_known};
 ghost use Rattle.reading.specs.Layout.{size_of, told};
 ghost use Rattle.model.specs.Frames.{PortsValid};
@@ -11,11 +10,13 @@ ghost use Rattle.memory.specs.Contract.{state_of};
 ghost use Rattle.cases.specs.Case.{call_of, done, one};
 ghost use Rattle.case_entries.specs.Contract.{running_of, Ready, PortsReadyNext, StepAs};
 
-use case_entries::{Run, Step};
+use case_entries::Run;
 use conditions::Table;
-use reading::{Access, Kind};
+use reading::{Kind, Reader};
+use refusals::Refusal;
+use text::Writer;
 
-// The access of a kind, with its nodes.
+// The access of a kind, with its nodes. A match, no closures: the kinds are lent different things.
 fn do_access(
     kind: Kind,
     port: u32,
@@ -23,83 +24,53 @@ fn do_access(
     list: &mut [u32],
     table: &mut Table,
     ports: &mut [u32; 128],
-    buf: &mut [u8],
+    w: &mut Writer,
     c: Run,
     ops: &[u32],
-) -> Step
+) -> Result<Run, Refusal>
     requires { Ready c.memory words.old list.old table.old × PortsValid (state_of c.memory words.old list.old ports.old) × (is_known kind ≡ true) × (length ops.now ≡ size_of kind c.memory.fields.sizes.n c.memory.fields.sizes.w) }
-    ensures { StepAs result words.new list.new buf.new table.new ports.new (done (call_of kind c.memory.fields.sizes.w (told kind c.memory.fields.sizes.n c.memory.fields.sizes.w port ops.now)) (state_of c.memory words.old list.old ports.old) c.at (out buf.old c.text)) }
+    ensures step { StepAs result words.new list.new w.new table.new ports.new (done (call_of kind c.memory.fields.sizes.w (told kind c.memory.fields.sizes.n c.memory.fields.sizes.w port ops.now)) (state_of c.memory words.old list.old ports.old) c.at (out_of w.old)) }
+    ensures same { SameBuffer w.old w.new }
 {
     match kind {
-        Kind::Write => case_entries::do_write(words, list, table, buf, c, ops),
-        Kind::Read => case_looks::do_read(words, list, table, ports, buf, c, port, ops),
-        Kind::Assert => case_entries::do_assert(words, list, table, buf, c, ops),
-        Kind::Check => case_looks::do_check(words, list, table, buf, c, ops),
-        Kind::Unknown => Step::Refused(11),
+        Kind::Write => case_entries::do_write(words, list, table, w, c, ops),
+        Kind::Read => case_looks::do_read(words, list, table, ports, w, c, port, ops),
+        Kind::Assert => case_entries::do_assert(words, list, table, w, c, ops),
+        Kind::Check => case_looks::do_check(words, list, table, w, c, ops),
+        Kind::Unknown => Err(Refusal::UnknownKind),
     }
 }
 
-// An access whose nodes stand in the file from a byte on; the words for them are its own.
-fn do_access_from(
-    file: &[u8],
-    from: usize,
-    kind: Kind,
-    port: u32,
-    words: &mut [u32],
-    list: &mut [u32],
-    table: &mut Table,
-    ports: &mut [u32; 128],
-    buf: &mut [u8],
-    c: Run,
-    ops: &mut [u32],
-) -> Step
-    requires { Ready c.memory words.old list.old table.old × PortsValid (state_of c.memory words.old list.old ports.old) × (is_known kind ≡ true) × (length ops.old ≡ size_of kind c.memory.fields.sizes.n c.memory.fields.sizes.w) × (from + 2 * length ops.old ≤ length file.now) }
-    ensures { StepAs result words.new list.new buf.new table.new ports.new (done (call_of kind c.memory.fields.sizes.w (told kind c.memory.fields.sizes.n c.memory.fields.sizes.w port (numbers_at file.now from (length ops.old)))) (state_of c.memory words.old list.old ports.old) c.at (out buf.old c.text)) }
-{
-    reading::read_numbers(file, from, ops);
-    do_access(kind, port, words, list, table, ports, buf, c, ops)
-}
-
-// The access at the case's place.
+// The access at the case's place; the words for its nodes are its own.
 pub fn do_one(
     file: &[u8],
     words: &mut [u32],
     list: &mut [u32],
     table: &mut Table,
     ports: &mut [u32; 128],
-    buf: &mut [u8],
+    w: &mut Writer,
     c: Run,
-) -> Step
+) -> Result<Run, Refusal>
     requires { Ready c.memory words.old list.old table.old × PortsValid (state_of c.memory words.old list.old ports.old) }
-    ensures { StepAs result words.new list.new buf.new table.new ports.new (one file.now (running_of c words.old list.old buf.old ports.old)) × PortsReadyNext result words.new list.new ports.new }
+    ensures step { StepAs result words.new list.new w.new table.new ports.new (one file.now (running_of c words.old list.old w.old ports.old)) × PortsReadyNext result words.new list.new ports.new }
+    ensures same { SameBuffer w.old w.new }
 {
-    let memory = c.memory;
-    let text = c.text;
-    let found = reading::access_at(file, c.at, memory.fields.sizes.n, memory.fields.sizes.w);
-    let access = found.access;
-    match access {
-        Access::Here { kind, port, from } => {
-            let size = reading::operands(kind, memory.fields.sizes.n, memory.fields.sizes.w);
-            let here = Run {
-                memory,
-                text,
-                at: found.at,
-            };
-            let mut ops: [u32; 50] = [0; 50];
-            do_access_from(
-                file,
-                from,
-                kind,
-                port,
-                words,
-                list,
-                table,
-                ports,
-                buf,
-                here,
-                &mut ops[..size],
-            )
-        }
-        Access::Refused(k) => Step::Refused(k),
-    }
+    let z = c.memory.fields.sizes;
+    let mut reader = Reader::begin(file, c.at);
+    let access = reader.next(z)?;
+    let mut ops = [0; 50];
+    let ops = &mut ops[..reading::operands(access.kind, z)];
+    reading::read_numbers(file, access.from, ops);
+    let here = Run { at: reader.at, ..c };
+    do_access(
+        access.kind,
+        access.port,
+        words,
+        list,
+        table,
+        ports,
+        w,
+        here,
+        ops,
+    )
 }

@@ -1,9 +1,5 @@
 -- The call of an access whose nodes are cut where its parts end.
-use mathlib.Core.Path.{◌≡◌, refl, sym, ap, ◌∙◌}
-use mathlib.Core.List.{List, [], ◌∷◌}
-use Prim.Native.Nat.{ℕ, ◌+◌, ◌*◌, ◌≤◌}
-use native.Mathlib.Omega.{arith}
-use lib.ListN.{length, get_or, replicate}
+use Rattle.std.proofs.Common.{◌≡◌, refl, sym, ap, ◌∙◌, List, [], ◌∷◌, ℕ, ◌+◌, ◌*◌, length, get_or, replicate, arith}
 use Rattle.model.specs.Record.{part}
 use Rattle.model.specs.Step.{write, read, assert, check, access}
 use Rattle.model.proofs.ListLaws.{part-size}
@@ -11,7 +7,6 @@ use Rattle.format.specs.declared.Kind.TheVariants.{Write, Read, Assert, Check}
 use Rattle.format.specs.Fields.{fields_of}
 use Rattle.reading.specs.declared.Ends.{Ends}
 use Rattle.reading.specs.Layout.{lead_of, ends_of, size_of, told}
-use Rattle.reading.proofs.LayoutLaws.{ends-write, ends_read, ends-assert, ends-check}
 use Rattle.cases.specs.Case.{call_of}
 
 -- b alone is the first node
@@ -36,16 +31,20 @@ cut ops e x c a d q qc qa qd l =
 
 module _ (n w : ℕ) (ops : List ℕ) (e : Ends) where
   pub write_cut : e ≡ ends_of Write n w → length ops ≡ size_of Write n w → Cut ops e 2 (2 * n) (2 * w)
-  write_cut q l = let z = ends-write n w in cut ops e _ 2 (2 * n) (2 * w) (q ∙ z) refl refl refl (l ∙ ap (λ (y : Ends). y.word) z)
+  unfolding ends_of fields_of
+  write_cut q l = cut ops e _ 2 (2 * n) (2 * w) q refl refl refl l
 
   pub read_cut : e ≡ ends_of Read n w → length ops ≡ size_of Read n w → Cut ops e 2 (2 * n) 0
-  read_cut q l = let z = ends_read n w in cut ops e _ 2 (2 * n) 0 (q ∙ z) refl refl (omega arith) (l ∙ ap (λ (y : Ends). y.word) z)
+  unfolding ends_of fields_of
+  read_cut q l = cut ops e _ 2 (2 * n) 0 q refl refl (omega arith) l
 
   pub assert_cut : e ≡ ends_of Assert n w → length ops ≡ size_of Assert n w → Cut ops e 1 (2 * n) (2 * w)
-  assert_cut q l = let z = ends-assert n w in cut ops e _ 1 (2 * n) (2 * w) (q ∙ z) refl refl refl (l ∙ ap (λ (y : Ends). y.word) z)
+  unfolding ends_of fields_of
+  assert_cut q l = cut ops e _ 1 (2 * n) (2 * w) q refl refl refl l
 
   pub check_cut : e ≡ ends_of Check n w → length ops ≡ size_of Check n w → Cut ops e 1 (2 * n) (2 * w)
-  check_cut q l = let z = ends-check n w in cut ops e _ 1 (2 * n) (2 * w) (q ∙ z) refl refl refl (l ∙ ap (λ (y : Ends). y.word) z)
+  unfolding ends_of fields_of
+  check_cut q l = cut ops e _ 1 (2 * n) (2 * w) q refl refl refl l
 
   pub write-told : (p : ℕ) → e ≡ ends_of Write n w → call_of Write w (told Write n w p ops) ≡ access (write (part ops 0 e.control) (part ops e.control e.address) (part ops e.address e.word))
   unfolding call_of lead_of fields_of
@@ -56,15 +55,15 @@ module _ (n w : ℕ) (ops : List ℕ) (e : Ends) where
   read_told p q = ap (λ (x : Ends). access (read p (part ops 0 x.control) (part ops x.control x.address) (replicate (2 * w) 0))) (sym q)
 
   pub assert-told : (p : ℕ) → e ≡ ends_of Assert n w → call_of Assert w (told Assert n w p ops) ≡ access (assert (get_or ops 0 0) (part ops e.control e.address) (part ops e.address e.word))
-  unfolding call_of lead_of fields_of
+  unfolding call_of lead_of ends_of fields_of
   assert-told p q =
       ap (λ (x : Ends). access (assert (get_or (part ops 0 x.control) 0 0) (part ops x.control x.address) (part ops x.address x.word))) (sym q)
-      ∙ ap (λ (x : Ends). access (assert (get_or (part ops 0 x.control) 0 0) (part ops e.control e.address) (part ops e.address e.word))) (q ∙ ends-assert n w)
+      ∙ ap (λ (x : Ends). access (assert (get_or (part ops 0 x.control) 0 0) (part ops e.control e.address) (part ops e.address e.word))) q
       ∙ ap (λ (b : ℕ). access (assert b (part ops e.control e.address) (part ops e.address e.word))) (first_part ops)
 
   pub check-told : (p : ℕ) → e ≡ ends_of Check n w → call_of Check w (told Check n w p ops) ≡ access (check (get_or ops 0 0) (part ops e.control e.address) (part ops e.address e.word))
-  unfolding call_of lead_of fields_of
+  unfolding call_of lead_of ends_of fields_of
   check-told p q =
       ap (λ (x : Ends). access (check (get_or (part ops 0 x.control) 0 0) (part ops x.control x.address) (part ops x.address x.word))) (sym q)
-      ∙ ap (λ (x : Ends). access (check (get_or (part ops 0 x.control) 0 0) (part ops e.control e.address) (part ops e.address e.word))) (q ∙ ends-check n w)
+      ∙ ap (λ (x : Ends). access (check (get_or (part ops 0 x.control) 0 0) (part ops e.control e.address) (part ops e.address e.word))) q
       ∙ ap (λ (b : ℕ). access (check b (part ops e.control e.address) (part ops e.address e.word))) (first_part ops)

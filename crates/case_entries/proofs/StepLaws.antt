@@ -1,47 +1,43 @@
 -- An access done: it goes on with its line, or is refused.
-use mathlib.Core.Path.{◌≡◌, refl, sym, ap, subst, ◌∙◌}
-use mathlib.Core.Bool.{Bool, true, false, cond}
-use mathlib.Core.List.{List}
-use Prim.Native.Nat.{ℕ}
-use Rattle.text.specs.declared.Text.{Text}
-use Rattle.text.specs.Text.{Out, out, appended}
-use Rattle.model.specs.Step.{State, Access, access, Answer, refused, is_refused, Result, step}
+use Rattle.std.proofs.Common.{◌≡◌, refl, sym, ap, subst, ◌∙◌, Bool, true, false, cond, List, ℕ, Result, Ok, Err}
+use Rattle.text.specs.declared.Writer.{Writer}
+use Rattle.text.specs.Text.{Out, appended}
+use Rattle.text.specs.Writer.{out_of}
+use Rattle.refusals.specs.declared.Refusal.{Refusal}
+use Rattle.refusals.specs.declared.Refusal.TheVariants as row
+use Rattle.refusals.specs.Refusal.{number}
+use Rattle.model.specs.Step.{State, Access, Call, access, Answer, refused, is_refused, step}
+use Rattle.model.specs.Step as model
 use Rattle.model.specs.Frames.{Valid}
 use Rattle.memory.specs.declared.Record.{Record}
 use Rattle.memory.specs.Contract.{state_of, AnswersOn, AnswersOnAnyPorts}
-use Rattle.case_entries.specs.declared.Step.{Step}
-use Rattle.case_entries.specs.declared.Step.TheVariants as steps
+use Rattle.case_entries.specs.declared.Run.{Run}
 use Rattle.cases.specs.Case.{goes, stops, line_of, printed, said, done}
-use Rattle.case_entries.specs.Contract.{next_of, printed_as, ReadyNext, StepAs}
+use Rattle.case_entries.specs.Contract.{next_of, printed_as, Ready, ReadyNext, StepAs}
 use Rattle.cases.proofs.WayLaws.{said-printed}
-use Rattle.case_entries.proofs.WordLaws.{valid-plain, after-valid}
+use Rattle.case_entries.proofs.WordLaws.{valid_ported, valid-plain, after-valid}
 
--- the answer of a call by its kind
-pub answers_as : {A : Type 0} (g : A → Answer) {c : Access} {s t : State} {x y : A} {table : List ℕ} → x ≡ y → AnswersOn c s t (g x) table → AnswersOn c s t (g y) table
-answers_as g {c} {s} {t} {table = table} e N = subst (λ x. AnswersOn c s t (g x) table) e N
-
--- of a call that is lent no ports, with any
-pub any_as : {A : Type 0} (g : A → Answer) {c : Access} {r r' : Record} {w l w' l' : List ℕ} {x y : A} {table : List ℕ} → x ≡ y → AnswersOnAnyPorts c r w l r' w' l' (g x) table → (ps : List ℕ)
-    → AnswersOn c (state_of r w l ps) (state_of r' w' l' ps) (g y) table
-any_as g e N ps = answers_as g e (record { is = N.is ps; sound = N.sound })
+-- the answer of a call that is lent no ports, with any
+pub any_ports : {c : Access} {r r' : Record} {w l w' l' : List ℕ} {a : Answer} {table : List ℕ} → AnswersOnAnyPorts c r w l r' w' l' a table → (ps : List ℕ) → AnswersOn c (state_of r w l ps) (state_of r' w' l' ps) a table
+any_ports N ps = record { is = N.is ps; sound = N.sound }
 
 module _ (c : Access) {s : State} {a : Answer} {m : Record} {w l ps table : List ℕ} (K : Valid s) (N : AnswersOn c s (state_of m w l ps) a table) (at : ℕ) (o : Out) where
   done_is : done (access c) s at o ≡ said a (state_of m w l ps) at o
   unfolding done
-  done_is = ap (λ (x : Result). said x.answer x.after at o) N.is
+  done_is = ap (λ (x : model.Result). said x.answer x.after at o) N.is
 
-  module _ (f : is_refused a ≡ false) {b : List ℕ} {t : Text} {r : Step} (p : out b t ≡ appended (line_of a (state_of m w l ps)) o) (q : r ≡ printed_as m t at) where
-    next_is : next_of r w l b ps ≡ printed (state_of m w l ps) at (out b t)
-    next_is = ap (λ (x : Step). next_of x w l b ps) q ∙ go t.full
+  module _ (f : is_refused a ≡ false) (b : Writer) {r : Result Run Refusal} (p : out_of b ≡ appended (line_of a (state_of m w l ps)) o) (q : r ≡ printed_as b.text (record { memory = m; at = at })) where
+    next_is : next_of r w l b ps ≡ printed (state_of m w l ps) at (out_of b)
+    next_is = ap (λ (x : Result Run Refusal). next_of x w l b ps) q ∙ go b.text.full
       where
-        go : (f : Bool) → next_of (cond f (steps.Refused 13) (steps.On (record { memory = m; text = t; at = at }))) w l b ps ≡ cond f (stops 13) (goes (record { state = state_of m w l ps; at = at; text = out b t }))
+        go : (f : Bool) → next_of (cond f (Err row.BufferShort) (Ok (record { memory = m; at = at }))) w l b ps ≡ cond f (stops 13) (goes (record { state = state_of m w l ps; at = at; text = out_of b }))
         go true = refl
         go false = refl
 
     next-ready : ReadyNext r w l table
-    next-ready = subst (λ (x : Step). ReadyNext x w l table) (sym q) (go t.full)
+    next-ready = subst (λ (x : Result Run Refusal). ReadyNext x w l table) (sym q) (go b.text.full)
       where
-        go : (f : Bool) → ReadyNext (cond f (steps.Refused 13) (steps.On (record { memory = m; text = t; at = at }))) w l table
+        go : (f : Bool) → ReadyNext (cond f (Err row.BufferShort) (Ok (record { memory = m; at = at }))) w l table
         go true = tt
         go false = record { valid = valid-plain m w l ps (after-valid (access c) K N.is); sound = N.sound f }
 
@@ -50,14 +46,14 @@ module _ (c : Access) {s : State} {a : Answer} {m : Record} {w l ps table : List
     step_on = record { is = next_is ∙ ap (printed (state_of m w l ps) at) p ∙ sym (said-printed a (state_of m w l ps) at o f) ∙ sym done_is; ready = next-ready }
 
 -- refused
-pub step-stop : (c : Access) {s t : State} {k : ℕ} {w l b ps table : List ℕ} (at : ℕ) (o : Out) → AnswersOn c s t (refused k) table → StepAs (steps.Refused k) w l b table ps (done (access c) s at o)
+pub step-stop : (c : Access) {s t : State} {r : Result Run Refusal} {k : Refusal} {w l ps table table' : List ℕ} {b : Writer} (at : ℕ) (o : Out) → r ≡ Err k → AnswersOn c s t (refused (number k)) table → StepAs r w l b table' ps (done (access c) s at o)
 unfolding done
-step-stop c at o N = record { is = sym (ap (λ (x : Result). said x.answer x.after at o) N.is); ready = tt }
+step-stop c at o e N = rw e (record { is = sym (ap (λ (x : model.Result). said x.answer x.after at o) N.is); ready = tt })
 
--- after a line
-module _ (m : Record) (t : Text) (at : ℕ) where
-  pub printed-full : t.full ≡ true → steps.Refused 13 ≡ printed_as m t at
-  printed-full e = sym (ap (λ (f : Bool). cond f (steps.Refused 13) (steps.On (record { memory = m; text = t; at = at }))) e)
+-- an access that is lent no ports
+module _ {m m' : Record} {w l w' l' table table' : List ℕ} (c : Access) {a : Answer} {call : Call} (at : ℕ) (o : Out) (told : call ≡ access c) (K : Ready m w l table) (N : AnswersOnAnyPorts c m w l m' w' l' a table') where
+  pub plain_on : is_refused a ≡ false → (b : Writer) {r : Result Run Refusal} → ((ps : List ℕ) → out_of b ≡ appended (line_of a (state_of m' w' l' ps)) o) → r ≡ printed_as b.text (record { memory = m'; at = at }) → (ps : List ℕ) → StepAs r w' l' b table' ps (done call (state_of m w l ps) at o)
+  plain_on f b p q ps = rw told (step_on c (valid_ported m w l ps K.valid) (any_ports N ps) at o f b (p ps) q)
 
-  pub printed-fits : t.full ≡ false → steps.On (record { memory = m; text = t; at = at }) ≡ printed_as m t at
-  printed-fits e = sym (ap (λ (f : Bool). cond f (steps.Refused 13) (steps.On (record { memory = m; text = t; at = at }))) e)
+  pub plain-stop : {k : Refusal} → a ≡ refused (number k) → {b : Writer} {r : Result Run Refusal} → r ≡ Err k → (ps : List ℕ) → StepAs r w' l' b table' ps (done call (state_of m w l ps) at o)
+  plain-stop {k} e {b} {r} q ps = rw told (step-stop c {table = table'} at o q (rw e at (any_ports N ps)))

@@ -1,13 +1,11 @@
 -- What is printed of a memory: nodes of its store.
-use mathlib.Core.Path.{◌≡◌, ap, subst}
-use Prim.Native.Nat.{ℕ, ◌<◌}
+use Rattle.std.proofs.Common.{◌≡◌, ap, subst, List, ℕ, ◌<◌}
 use Rattle.nodes.specs.Standard.{Standard}
 use Rattle.conditions.proofs.Promises.{standard_is}
 use Rattle.model.specs.Step.{State, Call, Answer, Result, step}
 use Rattle.model.specs.Frames.{Valid, StaysValid}
 use Rattle.model.proofs.FactLaws.{row3-tells}
 use Rattle.model.proofs.FrameLaws.{stays-valid}
-use mathlib.Core.List.{List}
 use Rattle.memory.specs.declared.Record.{Record}
 use Rattle.memory.specs.Contract.{state_of, memory_of}
 
@@ -28,8 +26,8 @@ module _ (c : Call) {s t : State} {a : Answer} (K : Valid s) (e : step c s ≡ r
   pub after-standard : Standard t.words t.rec.count
   after-standard = standard_is t.words t.rec.count (after-valid c K e).two
 
-  pub asserted-below : Standard t.words t.rec.count × (t.rec.asserted < t.rec.count)
-  asserted-below = (after-standard, ((row3-tells t.rec t.words t.list).is (after-valid c K e).three).asserted.below)
+  pub asserted-below : t.rec.asserted < t.rec.count
+  asserted-below = ((row3-tells t.rec t.words t.list).is (after-valid c K e).three).asserted.below
 
-  pub checked-below : Standard t.words t.rec.count × (t.rec.checked < t.rec.count)
-  checked-below = (after-standard, ((row3-tells t.rec t.words t.list).is (after-valid c K e).three).checked.below)
+  pub checked-below : t.rec.checked < t.rec.count
+  checked-below = ((row3-tells t.rec t.words t.list).is (after-valid c K e).three).checked.below

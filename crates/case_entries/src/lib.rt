@@ -2,42 +2,36 @@
 #![tactic(auto)]
 
 ghost use Rattle.std.specs.Prelude.{◌≡◌, List, ℕ, length};
-ghost use Rattle.text.specs.Text.{out};
+ghost use Rattle.text.specs.Writer.{out_of, SameBuffer};
 ghost use Rattle.format.specs.declared.Kind.TheVariants as kinds;
 ghost use Rattle.reading.specs.Layout.{size_of, told};
 ghost use Rattle.memory.specs.Contract.{state_of};
 ghost use Rattle.cases.specs.Case.{call_of, done};
 ghost use Rattle.case_entries.specs.Contract.{printed_as, Ready, StepAs};
 
+use assert_access::Asserted;
 use building::ControlNode;
-use conditions::Table;
-use memory::{AssertAnswer, Record, WriteAnswer};
+use conditions::{Diagrams, Table};
+use memory::Record;
 use reading::Kind;
-use text::Text;
+use refusals::Refusal;
+use text::Writer;
 
-// A case between two accesses: the memory, the text so far, and the byte with which the next access begins.
+// A case between two accesses: the memory, and the byte with which the next access begins. What it is lent goes beside it, one by one: a read and a check change no list, and only a read sees the ports, and so their parameters say.
 #[derive(Clone, Copy)]
 pub struct Run {
     pub memory: Record,
-    pub text: Text,
     pub at: usize,
 }
 
-// After an access the case goes on, or is refused by this number.
-#[derive(Clone, Copy)]
-pub enum Step {
-    On(Run),
-    Refused(u32),
-}
-
 // After a line: its text may not have fitted.
-pub fn printed(memory: Record, text: Text, at: usize) -> Step
-    ensures { result ≡ printed_as memory text at }
+pub fn printed(w: &Writer, c: Run) -> Result<Run, Refusal>
+    ensures { result ≡ printed_as w.now.text c }
 {
-    if text.full {
-        Step::Refused(13)
+    if w.text.full {
+        Err(Refusal::BufferShort)
     } else {
-        Step::On(Run { memory, text, at })
+        Ok(c)
     }
 }
 
@@ -46,32 +40,29 @@ pub fn do_write(
     words: &mut [u32],
     list: &mut [u32],
     table: &mut Table,
-    buf: &mut [u8],
+    w: &mut Writer,
     c: Run,
     ops: &[u32],
-) -> Step
+) -> Result<Run, Refusal>
     requires { Ready c.memory words.old list.old table.old × (length ops.now ≡ size_of kinds.Write c.memory.fields.sizes.n c.memory.fields.sizes.w) }
-    ensures { (ps : List ℕ) → StepAs result words.new list.new buf.new table.new ps (done (call_of kinds.Write c.memory.fields.sizes.w (told kinds.Write c.memory.fields.sizes.n c.memory.fields.sizes.w 0 ops.now)) (state_of c.memory words.old list.old ps) c.at (out buf.old c.text)) }
+    ensures step { (ps : List ℕ) → StepAs result words.new list.new w.new table.new ps (done (call_of kinds.Write c.memory.fields.sizes.w (told kinds.Write c.memory.fields.sizes.n c.memory.fields.sizes.w 0 ops.now)) (state_of c.memory words.old list.old ps) c.at (out_of w.old)) }
+    ensures same { SameBuffer w.old w.new }
 {
-    let memory = c.memory;
-    let e = reading::ends_of(Kind::Write, memory.fields.sizes.n, memory.fields.sizes.w);
-    let b = e.control;
-    let a = e.address;
-    let d = e.word;
-    let r = memory.write_on(words, list, table, &ops[0..b], &ops[b..a], &ops[a..d]);
-    let after = r.after;
-    let answer = r.answer;
-    match answer {
-        WriteAnswer::Entered(place) => {
-            let t = printing::put_write(buf, c.text, place);
-            printed(after, t, c.at)
-        }
-        WriteAnswer::Idle => {
-            let t = printing::put_idle(buf, c.text);
-            printed(after, t, c.at)
-        }
-        WriteAnswer::Refused(k) => Step::Refused(k),
+    let mut memory = c.memory;
+    let e = reading::ends_of(Kind::Write, memory.fields.sizes);
+    let entered = memory.write_on(
+        words,
+        list,
+        table,
+        &ops[0..e.control],
+        &ops[e.control..e.address],
+        &ops[e.address..e.word],
+    )?;
+    match entered {
+        Some(place) => printing::put_write(w, place),
+        None => printing::put_idle(w),
     }
+    printed(w, Run { memory, ..c })
 }
 
 // An assert, and its line.
@@ -79,51 +70,30 @@ pub fn do_assert(
     words: &mut [u32],
     list: &mut [u32],
     table: &mut Table,
-    buf: &mut [u8],
+    w: &mut Writer,
     c: Run,
     ops: &[u32],
-) -> Step
+) -> Result<Run, Refusal>
     requires { Ready c.memory words.old list.old table.old × (length ops.now ≡ size_of kinds.Assert c.memory.fields.sizes.n c.memory.fields.sizes.w) }
-    ensures { (ps : List ℕ) → StepAs result words.new list.new buf.new table.new ps (done (call_of kinds.Assert c.memory.fields.sizes.w (told kinds.Assert c.memory.fields.sizes.n c.memory.fields.sizes.w 0 ops.now)) (state_of c.memory words.old list.old ps) c.at (out buf.old c.text)) }
+    ensures step { (ps : List ℕ) → StepAs result words.new list.new w.new table.new ps (done (call_of kinds.Assert c.memory.fields.sizes.w (told kinds.Assert c.memory.fields.sizes.n c.memory.fields.sizes.w 0 ops.now)) (state_of c.memory words.old list.old ps) c.at (out_of w.old)) }
+    ensures same { SameBuffer w.old w.new }
 {
-    let memory = c.memory;
-    let e = reading::ends_of(Kind::Assert, memory.fields.sizes.n, memory.fields.sizes.w);
-    let b = e.control;
-    let a = e.address;
-    let d = e.word;
-    let r = memory.assert_on(
+    let mut memory = c.memory;
+    let e = reading::ends_of(Kind::Assert, memory.fields.sizes);
+    let asserted = memory.assert_on(
         words,
         list,
         table,
         ControlNode(ops[0]),
-        &ops[b..a],
-        &ops[a..d],
-    );
-    let after = r.after;
-    let answer = r.answer;
-    match answer {
-        AssertAnswer::Entered => {
-            let t = printing::put_assert(
-                buf,
-                c.text,
-                words,
-                after.fields.count,
-                true,
-                after.fields.asserted,
-            );
-            printed(after, t, c.at)
-        }
-        AssertAnswer::Kept => {
-            let t = printing::put_assert(
-                buf,
-                c.text,
-                words,
-                after.fields.count,
-                false,
-                after.fields.asserted,
-            );
-            printed(after, t, c.at)
-        }
-        AssertAnswer::Refused(k) => Step::Refused(k),
-    }
+        &ops[e.control..e.address],
+        &ops[e.address..e.word],
+    )?;
+    let entered = matches!(asserted, Asserted::Entered);
+    let r = memory.fields;
+    let d = Diagrams {
+        words,
+        count: r.count,
+    };
+    printing::put_assert(w, d, entered, r.asserted);
+    printed(w, Run { memory, ..c })
 }

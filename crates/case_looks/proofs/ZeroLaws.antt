@@ -1,14 +1,7 @@
 -- A part of zeros.
-use mathlib.Core.Path.{◌≡◌, refl, ap}
-use mathlib.Core.List.{List, ◌∷◌}
-use Prim.Native.Nat.{ℕ, zero, suc, ◌≤◌}
-use native.Mathlib.Omega.{arith}
-use lib.ListN.{take, replicate}
+use Rattle.std.proofs.Common.{◌≡◌, ap, ◌∙◌, ℕ, ◌*◌, ◌≤◌, take, replicate, arith}
+use Rattle.std.proofs.lemmas.List.{take-replicate}
 
-abbrev zeros : ℕ → List ℕ
-zeros i = replicate i 0
-
-pub zeros-part : (k n : ℕ) → k ≤ n → take k (zeros n) ≡ zeros k
-zeros-part zero n h = refl
-zeros-part (suc k) zero h = absurd (omega arith)
-zeros-part (suc k) (suc n) h = ap (λ (l : List ℕ). 0 ∷ l) (zeros-part k n (omega arith))
+-- of 32 zeros, the words of at most 16 pairs
+pub zeros-part : {k w : ℕ} → k ≡ 2 * w → w ≤ 16 → take k (replicate {A = ℕ} 32 0) ≡ replicate (2 * w) 0
+zeros-part {k} {w} e h = ap (λ (i : ℕ). take i (replicate {A = ℕ} 32 0)) e ∙ take-replicate (2 * w) 32 0 (omega arith)

@@ -8,29 +8,39 @@ ghost use Rattle.casefile.specs.Contract.{case_as, output_as};
 mod accesses;
 
 use memory::Record;
-use text::Text;
+use refusals::Refusal;
+use text::{Text, Writer};
 
-// The text length and the last record; or a refusal's number, and how many accesses were printed before.
+// An accepted case: the text length and the last record.
 #[derive(Clone, Copy)]
-pub enum CaseAnswer {
-    Done { length: usize, memory: Record },
-    Refused { number: u32, after: u32 },
+pub struct CaseDone {
+    pub length: usize,
+    pub memory: Record,
+}
+
+// A refused case: by what, and how many accesses were printed before.
+#[derive(Clone, Copy)]
+pub struct CaseRefused {
+    pub refusal: Refusal,
+    pub after: u32,
 }
 
 // A case: what a refused one leaves is zeros.
-pub fn run_case(case: &[u8], words: &mut [u32], list: &mut [u32], text: &mut [u8]) -> CaseAnswer
+pub fn run_case(
+    case: &[u8],
+    words: &mut [u32],
+    list: &mut [u32],
+    text: &mut [u8],
+) -> Result<CaseDone, CaseRefused>
     ensures { case_as result words.new list.new text.new ≡ case_of case.now words.old list.old text.old }
 {
-    let r = accesses::whole(case, words, list, text);
-    match r {
-        CaseAnswer::Done { length, memory } => CaseAnswer::Done { length, memory },
-        CaseAnswer::Refused { number, after } => {
-            zeros::zero_words(words);
-            zeros::zero_words(list);
-            zeros::zero_bytes(text);
-            CaseAnswer::Refused { number, after }
-        }
+    let answer = accesses::whole(case, words, list, text);
+    if answer.is_err() {
+        words.fill(0);
+        list.fill(0);
+        text.fill(0);
     }
+    answer
 }
 
 // A case, and what is to be printed of it as a text in the text buffer: that of an accepted one, or the one line of a refused one.
@@ -38,14 +48,15 @@ pub fn print_case(case: &[u8], words: &mut [u32], list: &mut [u32], text: &mut [
     ensures text_after { output_as result words.new list.new text.new ≡ output_of (case_of case.now words.old list.old text.old) }
     ensures within { result.at ≤ length text.new }
 {
-    let answer = run_case(case, words, list, text);
-    match answer {
-        CaseAnswer::Done { length, .. } => Text {
-            at: length,
+    match run_case(case, words, list, text) {
+        Ok(done) => Text {
+            at: done.length,
             full: false,
         },
-        CaseAnswer::Refused { number, after } => {
-            printing::put_refused(text, Text { at: 0, full: false }, number, after)
+        Err(refused) => {
+            let mut w = Writer::new(text);
+            printing::put_refused(&mut w, refused.refusal.number(), refused.after);
+            w.text
         }
     }
 }

@@ -4,7 +4,7 @@
 
 use std::io;
 use std::io::{BufReader, BufWriter, Read, Write};
-use stored::{Item, RecordWords, digest_bytes, digest_words, length, wide};
+use stored::{Item, Kind, RecordWords, digest, length, wide};
 
 // What a call returned and counted, and the record.
 #[derive(Clone, Copy)]
@@ -22,12 +22,10 @@ fn tell<W: Write>(out: &mut W, d: Done) -> io::Result<()> {
 }
 
 // The text of an accepted case.
-fn text_of<W: Write>(out: &mut W, row: u32, text: &[u8], count: u64) -> io::Result<()> {
-    let n = count as usize;
-    if row == 0 {
-        if n <= text.len() {
-            stored::bytes(out, &text[..n])?;
-        }
+fn text_of<W: Write>(out: &mut W, d: Done, text: &[u8]) -> io::Result<()> {
+    let n = d.count as usize;
+    if d.row == 0 && n <= text.len() {
+        stored::bytes(out, &text[..n])?;
     }
     Ok(())
 }
@@ -40,9 +38,9 @@ fn digests<W: Write>(
     list: &[u32],
     text: &[u8],
 ) -> io::Result<()> {
-    wide(out, digest_words(words, x.e as usize))?;
-    wide(out, digest_words(list, x.f as usize))?;
-    wide(out, digest_bytes(text))?;
+    wide(out, digest(words, x.e as usize))?;
+    wide(out, digest(list, x.f as usize))?;
+    wide(out, digest(text, 0))?;
     stored::bytes(out, b"\n")
 }
 
@@ -64,27 +62,15 @@ fn lend(x: Item, case: &[u8], words: &mut [u32], list: &mut [u32], text: &mut [u
     Done { row, count, record }
 }
 
-// A case and what is said of it.
-fn told<W: Write>(
-    out: &mut W,
-    x: Item,
-    case: &[u8],
-    words: &mut [u32],
-    list: &mut [u32],
-    text: &mut [u8],
-) -> io::Result<()> {
-    let d = lend(x, case, words, list, text);
-    tell(out, d)?;
-    digests(out, x, words, list, text)?;
-    text_of(out, d.row, text, d.count)
-}
-
-// A case on buffers in which no part is 0, a node, a variable or a byte of text.
+// A case and what is said of it, on buffers in which no part is 0, a node, a variable or a byte of text.
 fn run<W: Write>(out: &mut W, x: Item, case: &[u8]) -> io::Result<()> {
     let mut words = [0x8000_0007u32; 60100];
     let mut list = [0x8000_0007u32; 30100];
     let mut text = [0x87u8; 65636];
-    told(out, x, case, &mut words, &mut list, &mut text)
+    let d = lend(x, case, &mut words, &mut list, &mut text);
+    tell(out, d)?;
+    digests(out, x, &words, &list, &text)?;
+    text_of(out, d, &text)
 }
 
 // The next case, of d bytes, of which the call is lent g. Whether there was one.
@@ -95,7 +81,7 @@ fn next<R: Read, W: Write>(
     number: u32,
 ) -> io::Result<bool> {
     let x = stored::next(input)?;
-    if x.kind == 0 {
+    if Kind::from(x.kind) == Kind::End {
         return Ok(false);
     }
     let size = length(x.d, case.len());

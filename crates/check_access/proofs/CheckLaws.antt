@@ -1,8 +1,5 @@
 -- A check by its rows.
-use mathlib.Core.Path.{◌≡◌, sym, ◌∙◌}
-use mathlib.Core.Bool.{Bool, false}
-use mathlib.Core.List.{List}
-use Prim.Native.Nat.{ℕ, ◌<◌}
+use Rattle.std.proofs.Common.{◌≡◌, sym, false, List, ℕ, ◌<◌}
 use Rattle.conditions.specs.Stores.{clear_of}
 use Rattle.conditions.proofs.Promises.{builds_clear}
 use Rattle.model.specs.Access as built
@@ -20,7 +17,7 @@ pub record CheckHolds (r : Fields) (w l : List ℕ) (b : ℕ) (a d : List ℕ) :
   pub checked : r.checked < r.count
   pub clears : clear_of (built.Check r l b a d w (begin r)).words r.count ≡ clear_of w r.count
 
-pub check-holds : (r : Fields) (w l : List ℕ) (b : ℕ) (a d : List ℕ) {k : ℕ} → k ≡ first_row (check_rows r w l b a d) → k ≡ 0 → CheckHolds r w l b a d
-check-holds r w l b a d e z =
-    let F = check-facts (state_of r w l) b a d (sym e ∙ z) in
-    record { rows = compared r w l b a d e z; checked = F.memory.listed.checked.below; clears = builds_clear (check-program (λ k. false) (state_of r w l) b a d F) }
+pub check-holds : (r : Fields) (w l : List ℕ) (b : ℕ) (a d : List ℕ) → 0 ≡ first_row (check_rows r w l b a d) → CheckHolds r w l b a d
+check-holds r w l b a d e =
+    let F = check-facts (state_of r w l) b a d (sym e) in
+    record { rows = compared r w l b a d e; checked = F.memory.listed.checked.below; clears = builds_clear (check-program (λ k. false) (state_of r w l) b a d F) }

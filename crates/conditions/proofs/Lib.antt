@@ -1,3 +1,5 @@
 pub mod TableLaws
 pub mod ContractLaws
+pub mod BuilderLaws
+pub mod StepLaws
 pub mod Promises

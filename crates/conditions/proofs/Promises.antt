@@ -30,6 +30,8 @@ pub use Rattle.operations.proofs.LongerLaws.{value-longer}
 pub use Rattle.operations.proofs.AgainLaws.{Later, ite-again}
 -- row 5
 pub use Rattle.operations.proofs.UserLaws.{user_is, is_user_lem, user_stands, stands_user, stands_turns}
+-- steps one after another in a store that is built in: `Later` and `Did` of `Builder`
+pub use Rattle.conditions.proofs.BuilderLaws.{later_refl, later_trans, later_node, did_pure, did_next}
 -- the table to begin with
 pub use Rattle.conditions.proofs.ContractLaws.{zeros-sound}
 -- rows 6 and 7

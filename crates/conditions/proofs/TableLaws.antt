@@ -1,31 +1,21 @@
 -- The computed table changes nothing of what Ite leaves: what it has is Ite's answer, and stays so as the store grows.
-use mathlib.Core.Path.{◌≡◌, refl, sym, ap, ◌∙◌}
-use mathlib.Core.Bool.{Bool, true, false, cond}
-use mathlib.Core.Logic.{◌⊎◌, inl, inr}
-use mathlib.Core.List.{List}
-use Prim.Native.Nat.{ℕ, zero, suc, ◌+◌, ◌*◌, ◌/◌, ◌%◌, ◌<◌, ◌≤◌}
-use native.Mathlib.Omega.{arith}
-use lib.Dec.{eqb}
-use lib.ListN.{get_or, replicate}
-use borrow.Author.Tests.{eqb-true}
+use Rattle.std.proofs.Common.{◌≡◌, refl, sym, ap, ◌∙◌, Bool, false, ◌⊎◌, inl, inr, List, ℕ, zero, suc, ◌+◌, ◌*◌, ◌/◌, ◌%◌, ◌<◌, ◌≤◌, arith, eqb, get_or, replicate, eqb-true, Option, Some, None}
 use Rattle.nodes.specs.Standard.{Standard}
 use Rattle.nodes.proofs.BoolLaws.{split}
 use Rattle.nodes.proofs.ExtendsLaws.{extends_refl}
 use Rattle.operations.specs.declared.Store.{Store}
 use Rattle.diagrams.specs.declared.Parts.{Parts}
-use Rattle.operations.specs.declared.Plain.{Plain}
-use Rattle.operations.specs.declared.Plain.TheVariants.{Done, Split}
 use Rattle.operations.specs.Build.{Outcome, pure}
 use Rattle.operations.specs.Make.{Make}
 use Rattle.operations.specs.Ite.{plain_of, parts_of, Ite}
 use Rattle.operations.specs.Meaning.{Builds}
 use Rattle.diagrams.specs.Keys.{key_of, slot_of}
-use Rattle.conditions.specs.Table.{recall_of, or_recall, known_of, remember_of, Known, Remembers}
+use Rattle.conditions.specs.Table.{recall_of, known_of, remember_of, Known, Remembers}
 use Rattle.operations.proofs.BuildLaws.{was_free}
 use Rattle.diagrams.proofs.PartsLaws.{Ready}
 use Rattle.diagrams.proofs.KeyLaws.{set_or}
-use Rattle.operations.proofs.IteLaws.{ready-builds, ite_bounds, ite-done, splits, split-make, split_all}
-use Rattle.operations.proofs.AgainLaws.{Later, ite-again}
+use Rattle.operations.proofs.IteLaws.{ready-builds, ite_bounds, ite-done, splits, split_all}
+use Rattle.operations.proofs.AgainLaws.{ite-again}
 
 known-ready : {w : List ℕ} {s : Store} {f g h r : ℕ} → Standard w s.count → Known w s f g h r → Ready w s.count f g h
 known-ready S K = record { standard = S; first = K.first; second = K.second; third = K.third }
@@ -99,7 +89,7 @@ remembers-zeros n w s S =
     }
 
 -- where the table has an answer it is Ite's
-recall_is : (t w : List ℕ) (s : Store) (f g h n : ℕ) → Remembers t w s → s.full ≡ false → f < 16384 → g < 16384 → h < 16384 → recall_of t f g h ≡ Done n → pure n w s ≡ Ite f g h w s
+recall_is : (t w : List ℕ) (s : Store) (f g h n : ℕ) → Remembers t w s → s.full ≡ false → f < 16384 → g < 16384 → h < 16384 → recall_of t f g h ≡ Some n → pure n w s ≡ Ite f g h w s
 unfolding recall_of
 recall_is t w s f g h n M free lf lg lh q =
     split (eqb (get_or t (slot_of f g h) 0 / 16384) (key_of f g h))
@@ -110,43 +100,41 @@ recall_is t w s f g h n M free lf lg lh q =
     let e1 : a / 4398046511104 ≡ f = omega arith in
     let e2 : a / 268435456 % 16384 ≡ g = omega arith in
     let e3 : a / 16384 % 16384 ≡ h = omega arith in
-    let z : Done (a % 16384) ≡ Done n = rw k at q in
+    let z : Some (a % 16384) ≡ Some n = rw k at q in
     let y : a % 16384 ≡ n = cc in
     sym ((rw (e1, e2, e3) at K.is) ∙ ap (λ m. pure m w s) y))
-    (λ k. let z : Split ≡ Done n = rw k at q in let y : ◌≡◌ {A = ℕ} 0 1 = cc in absurd (omega arith))
+    (λ k. let z : None ≡ Some n = rw k at q in let y : ◌≡◌ {A = ℕ} 0 1 = cc in absurd (omega arith))
 
 module _ (t w : List ℕ) (s : Store) (f g h : ℕ) where
-  pub known-done : (n : ℕ) → Ready w s.count f g h → Remembers t w s → known_of t s.full f g h ≡ Done n → pure n w s ≡ Ite f g h w s
+  pub known-done : (n : ℕ) → Ready w s.count f g h → Remembers t w s → known_of t s.full f g h ≡ Some n → pure n w s ≡ Ite f g h w s
   unfolding known_of
   known-done n r M q = go (plain_of s.full f g h) refl
     where
       most : (k : ℕ) → k < s.count → k < 16384
       most k b = omega (arith, r.standard.most)
 
-      go : (d : Plain) → plain_of s.full f g h ≡ d → pure n w s ≡ Ite f g h w s
-      go (Done m) e =
-          let z : Done m ≡ Done n = rw e at q in
+      go : (d : Option ℕ) → plain_of s.full f g h ≡ d → pure n w s ≡ Ite f g h w s
+      go (Some m) e =
+          let z : Some m ≡ Some n = rw e at q in
           let y : m ≡ n = cc in
           ite-done w s f g h n r (rw y at e)
-      go Split e =
+      go None e =
           recall_is t w s f g h n M (splits s.full f g h e).free (most f r.first) (most g r.second) (most h r.third) (rw e at q)
 
-pub known_split : (t : List ℕ) (f g h : ℕ) (full : Bool) → known_of t full f g h ≡ Split → plain_of full f g h ≡ Split
+pub known_split : (t : List ℕ) (f g h : ℕ) (full : Bool) → known_of t full f g h ≡ None → plain_of full f g h ≡ None
 unfolding known_of
 known_split t f g h full q = go (plain_of full f g h) refl
   where
-    go : (d : Plain) → plain_of full f g h ≡ d → plain_of full f g h ≡ Split
-    go (Done m) e = let z : Done m ≡ Split = rw e at q in let y : ◌≡◌ {A = ℕ} 0 1 = cc in absurd (omega arith)
-    go Split e = e
+    go : (d : Option ℕ) → plain_of full f g h ≡ d → plain_of full f g h ≡ None
+    go (Some m) e = let z : Some m ≡ None = rw e at q in let y : ◌≡◌ {A = ℕ} 0 1 = cc in absurd (omega arith)
+    go None e = e
 
 -- the table after a new answer
-pub split_remembers : (w : List ℕ) (s : Store) (f g h : ℕ) (d : Parts) (r : Ready w s.count f g h) (e : plain_of s.full f g h ≡ Split) (ed : d ≡ parts_of w f g h) {x y z : Outcome ℕ} {t t' : List ℕ}
+pub split_remembers : (w : List ℕ) (s : Store) (f g h : ℕ) (d : Parts) (r : Ready w s.count f g h) (e : plain_of s.full f g h ≡ None) (ed : d ≡ parts_of w f g h) {x y z : Outcome ℕ} {t t' : List ℕ}
     → x ≡ Ite d.f0 d.g0 d.h0 w s → y ≡ Ite d.f1 d.g1 d.h1 x.words x.store → z ≡ Make d.v x.answer y.answer y.words y.store
-    → Standard y.words y.store.count → Remembers t y.words y.store → t' ≡ remember_of t f g h z.answer → Remembers t' z.words z.store
-split_remembers w s f g h d r e ed {x} {y} {z} {t} {t'} ex ey ez S M et =
-    let Z = split-make w s f g h d r e ed ex ey in
+    → Remembers t z.words z.store → t' ≡ remember_of t f g h z.answer → Remembers t' z.words z.store
+split_remembers w s f g h d r e ed {x} {y} {z} {t} {t'} ex ey ez M et =
     let z-is : z ≡ Ite f g h w s = split_all w s f g h d r e ed ex ey ez in
     let B = ite_bounds s r z-is in
-    let m : Remembers t z.words z.store = rw ez (remembers_later S Z M) in
     let most = r.standard.most in
-    rw et (remembers-more f g h z.answer (omega (arith, r.first)) (omega (arith, r.second)) (omega (arith, r.third)) (omega (arith, B.0, B.1)) m (λ k. ite-known w s f g h r z-is k))
+    rw et (remembers-more f g h z.answer (omega (arith, r.first)) (omega (arith, r.second)) (omega (arith, r.third)) (omega (arith, B.0, B.1)) M (λ k. ite-known w s f g h r z-is k))

@@ -13,3 +13,4 @@ pub mod Show
 pub mod Computing
 pub mod Table
 pub mod Contract
+pub mod Builder

@@ -1,22 +1,20 @@
 -- The computed table: answers of Ite that were remembered, one to a number.
-use Rattle.std.specs.Prelude.{◌≡◌, Bool, true, false, cond, List, ℕ, ◌+◌, ◌*◌, ◌/◌, ◌%◌, ◌<◌, eqb, get_or, set}
+use Rattle.std.specs.Prelude.{◌≡◌, Bool, false, cond, List, ℕ, ◌+◌, ◌*◌, ◌/◌, ◌%◌, ◌<◌, eqb, get_or, set, Option, Some, None}
 use Rattle.diagrams.specs.Keys.{key_of, slot_of}
 use Rattle.operations.specs.declared.Store.{Store}
-use Rattle.operations.specs.declared.Plain.{Plain}
-use Rattle.operations.specs.declared.Plain.TheVariants.{Done, Split}
 use Rattle.operations.specs.Build.{pure}
 use Rattle.operations.specs.Ite.{plain_of, Ite}
 
 -- what stands at the place of three nodes, if it is theirs
-unfoldable pub recall_of : List ℕ → ℕ → ℕ → ℕ → Plain
-recall_of t f g h = cond (eqb (get_or t (slot_of f g h) 0 / 16384) (key_of f g h)) (Done (get_or t (slot_of f g h) 0 % 16384)) Split
+unfoldable pub recall_of : List ℕ → ℕ → ℕ → ℕ → Option ℕ
+recall_of t f g h = cond (eqb (get_or t (slot_of f g h) 0 / 16384) (key_of f g h)) (Some (get_or t (slot_of f g h) 0 % 16384)) None
 
 -- by a rule of Ite, or else by the table
-abbrev pub or_recall : Plain → List ℕ → ℕ → ℕ → ℕ → Plain
-or_recall (Done n) t f g h = Done n
-or_recall Split t f g h = recall_of t f g h
+abbrev pub or_recall : Option ℕ → List ℕ → ℕ → ℕ → ℕ → Option ℕ
+or_recall (Some n) t f g h = Some n
+or_recall None t f g h = recall_of t f g h
 
-unfoldable pub known_of : List ℕ → Bool → ℕ → ℕ → ℕ → Plain
+unfoldable pub known_of : List ℕ → Bool → ℕ → ℕ → ℕ → Option ℕ
 known_of t full f g h = or_recall (plain_of full f g h) t f g h
 
 abbrev pub remember_of : List ℕ → ℕ → ℕ → ℕ → ℕ → List ℕ

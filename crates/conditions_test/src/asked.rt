@@ -1,27 +1,23 @@
 // Questions about the nodes b, c and d of a store.
-ghost use Rattle.std.specs.Prelude.{◌<◌, ◌≤◌};
-ghost use Rattle.nodes.specs.Standard.{Standard};
+ghost use Rattle.std.specs.Prelude.{◌<◌, ◌≤◌, length};
 
-use search::{Found, Searched};
+use conditions::Builder;
+use search::Searched;
 use std::io;
 use std::io::Write;
-use stored::Item;
-use text::Text;
-
-fn joined(low: u32, high: u32) -> u64 {
-    low as u64 + 4294967296 * (high as u64)
-}
+use stored::{Item, joined};
+use text::{Text, Writer};
 
 // 21: the value under the assignment whose halves are e and f; 22: whether an argument may name e; 23: whether b and c are neither somewhere; 24: whether b, c and d hold together.
-fn truth(x: Item, words: &[u32], count: u32) -> bool
-    requires { Standard words.now count × (x.b < count) × (x.c < count) × (x.d < count) }
+fn truth(x: Item, build: &Builder) -> bool
+    requires { (x.b < build.now.store.count) × (x.c < build.now.store.count) × (x.d < build.now.store.count) }
 {
-    let kind = x.kind;
-    match kind {
-        21 => conditions::evaluate(words, count, x.b, joined(x.e, x.f)),
-        22 => conditions::is_user(words, count, x.e),
-        23 => conditions::neither(words, count, x.b, x.c),
-        _ => conditions::together(words, count, x.b, x.c, x.d),
+    let d = build.view();
+    match x.kind {
+        21 => conditions::evaluate(d, x.b, joined(x.e, x.f)),
+        22 => conditions::is_user(d, x.e),
+        23 => conditions::neither(d, x.b, x.c),
+        _ => conditions::together(d, x.b, x.c, x.d),
     }
 }
 
@@ -29,83 +25,58 @@ fn truth(x: Item, words: &[u32], count: u32) -> bool
 fn tell<W: Write>(out: &mut W, t: Text) -> io::Result<()> {
     stored::bytes(out, b" at ")?;
     stored::decimal(out, t.at as u64)?;
-    stored::word(out, t.full as u32)?;
+    stored::word(out, u32::from(t.full))?;
     stored::bytes(out, b"\n")
 }
 
-// A node's text in so many of 20 bytes, each of which is a dot before.
-fn short_text<W: Write>(
+// A node's text in the first bytes of a buffer, of which so many are shown.
+fn put_text<W: Write>(
     out: &mut W,
+    buf: &mut [u8],
     room: usize,
-    words: &[u32],
-    count: u32,
+    shown: usize,
+    build: &Builder,
     node: u32,
 ) -> io::Result<()>
-    requires { (room ≤ 20) × Standard words.now count × (node < count) }
+    requires { (room ≤ length buf.old) × (shown ≤ length buf.old) × (node < build.now.store.count) }
 {
-    let mut buf = [b'.'; 20];
-    let empty = Text { at: 0, full: false };
-    let t = conditions::put_condition(&mut buf[..room], empty, words, count, node);
-    stored::bytes(out, &buf)?;
-    tell(out, t)
-}
-
-// A node's text in 65,536 bytes, of which 29 are shown.
-fn long_text<W: Write>(out: &mut W, words: &[u32], count: u32, node: u32) -> io::Result<()>
-    requires { Standard words.now count × (node < count) }
-{
-    let mut buf = [0u8; 65536];
-    let empty = Text { at: 0, full: false };
-    let t = conditions::put_condition(&mut buf, empty, words, count, node);
-    stored::bytes(out, &buf[..29])?;
+    let mut w = Writer::new(&mut buf[..room]);
+    conditions::put_condition(&mut w, build.view(), node);
+    let t = w.text;
+    stored::bytes(out, &buf[..shown])?;
     tell(out, t)
 }
 
 // Whether a search found a node, which, and how many nodes it compared.
 fn tell_search<W: Write>(out: &mut W, r: Searched) -> io::Result<()> {
-    let found = r.found;
-    match found {
-        Found::At(n) => {
-            stored::word(out, 1)?;
-            stored::word(out, n)?;
-        }
-        Found::Nowhere => {
-            stored::word(out, 0)?;
-            stored::word(out, 0)?;
-        }
-    }
+    stored::word(out, u32::from(r.found.is_some()))?;
+    stored::word(out, r.found.unwrap_or(0))?;
     stored::word(out, r.compared)?;
     stored::bytes(out, b"\n")
 }
 
 // The search for the node with the words a, b and c, if b and c are nodes.
-pub fn look<W: Write>(out: &mut W, x: Item, words: &[u32], count: u32) -> io::Result<()>
-    requires { Standard words.now count }
-{
-    if x.b < count {
-        if x.c < count {
-            let r = searching::search(words, count, x.a, x.b, x.c);
-            return tell_search(out, r);
-        }
+pub fn look<W: Write>(out: &mut W, x: Item, build: &Builder) -> io::Result<()> {
+    let count = build.store.count;
+    if x.b < count && x.c < count {
+        let r = searching::search(build.words, count, x.a, x.b, x.c);
+        return tell_search(out, r);
     }
     stored::bytes(out, b" 2 0 0\n")
 }
 
-// 25: the text in e bytes, up to 20; 26: in 65,536.
-pub fn ask<W: Write>(out: &mut W, x: Item, words: &[u32], count: u32) -> io::Result<()>
-    requires { Standard words.now count × (x.b < count) × (x.c < count) × (x.d < count) }
+// 25: the text in e of 20 bytes, each of which is a dot before; 26: in 65,536, of which 29 are shown.
+pub fn ask<W: Write>(out: &mut W, x: Item, build: &Builder) -> io::Result<()>
+    requires { (x.b < build.now.store.count) × (x.c < build.now.store.count) × (x.d < build.now.store.count) }
 {
-    let room = x.e as usize;
-    if x.kind == 26 {
-        return long_text(out, words, count, x.b);
-    }
-    if x.kind == 25 {
-        if room <= 20 {
-            return short_text(out, room, words, count, x.b);
+    match x.kind {
+        26 => put_text(out, &mut [0; 65536], 65536, 29, build, x.b),
+        25 if x.e <= 20 => put_text(out, &mut [b'.'; 20], x.e as usize, 20, build, x.b),
+        25 => Ok(()),
+        _ => {
+            let holds = truth(x, build);
+            stored::word(out, u32::from(holds))?;
+            stored::bytes(out, b"\n")
         }
-        return Ok(());
     }
-    let holds = truth(x, words, count);
-    stored::word(out, holds as u32)?;
-    stored::bytes(out, b"\n")
 }

@@ -1,102 +1,65 @@
-// Operations one after the other, on one store and with one table.
-ghost use Rattle.std.specs.Prelude.{◌≡◌, ◌<◌, IfOk};
-ghost use Rattle.conditions.specs.Contract.{Sound};
+// Operations one after the other, in one store and with one table.
+ghost use Rattle.std.specs.Prelude.{◌<◌};
 
 use crate::asked;
-use conditions::{Built, Store, Table};
+use conditions::{Builder, Store};
 use std::io;
 use std::io::{Read, Write};
 use stored::Item;
 
 // The variable is a, and the nodes are b, c and d.
-fn build(x: Item, words: &mut [u32], table: &mut Table, s: Store) -> Built
-    requires { Sound words.old table.old s × (x.a < 64) × (x.b < s.count) × (x.c < s.count) × (x.d < s.count) }
-    ensures { Sound words.new table.new result.store }
+fn operate(x: Item, build: &mut Builder) -> u32
+    requires { (x.a < 64) × (x.b < build.old.store.count) × (x.c < build.old.store.count) × (x.d < build.old.store.count) }
 {
-    let kind = x.kind;
-    match kind {
-        11 => conditions::variable(words, table, s, x.a),
-        12 => conditions::ite(words, table, s, x.b, x.c, x.d),
-        13 => conditions::not(words, table, s, x.b),
-        14 => conditions::and(words, table, s, x.b, x.c),
-        15 => conditions::or(words, table, s, x.b, x.c),
-        _ => conditions::any(words, table, s, x.b),
+    match x.kind {
+        11 => build.variable(x.a),
+        12 => build.ite(x.b, x.c, x.d),
+        13 => build.not(x.b),
+        14 => build.and(x.b, x.c),
+        15 => build.or(x.b, x.c),
+        _ => build.any(x.b),
     }
 }
 
 // The node, the count and whether the store is full.
-fn tell<W: Write>(out: &mut W, r: Built) -> io::Result<()> {
-    stored::word(out, r.node)?;
-    stored::word(out, r.store.count)?;
-    stored::word(out, r.store.full as u32)?;
+fn tell<W: Write>(out: &mut W, node: u32, store: Store) -> io::Result<()> {
+    stored::word(out, node)?;
+    stored::word(out, store.count)?;
+    stored::word(out, u32::from(store.full))?;
     stored::bytes(out, b"\n")
 }
 
 // An operation, or a question that builds nothing.
-fn act<W: Write>(
-    out: &mut W,
-    x: Item,
-    words: &mut [u32],
-    table: &mut Table,
-    s: Store,
-) -> io::Result<Store>
-    requires { Sound words.old table.old s × (x.a < 64) × (x.b < s.count) × (x.c < s.count) × (x.d < s.count) }
-    ensures { IfOk result (λ t. Sound words.new table.new t) }
+fn act<W: Write>(out: &mut W, x: Item, build: &mut Builder) -> io::Result<()>
+    requires { (x.a < 64) × (x.b < build.old.store.count) × (x.c < build.old.store.count) × (x.d < build.old.store.count) }
 {
     if x.kind < 20 {
-        let r = build(x, words, table, s);
-        tell(out, r)?;
-        return Ok(r.store);
+        let node = operate(x, build);
+        return tell(out, node, build.store);
     }
-    asked::ask(out, x, words, s.count)?;
-    Ok(s)
+    asked::ask(out, x, build)
 }
 
 // The same, if the variable and the nodes are some. 27 is a search, for any words.
-fn step<W: Write>(
-    out: &mut W,
-    x: Item,
-    words: &mut [u32],
-    table: &mut Table,
-    s: Store,
-) -> io::Result<Store>
-    requires { Sound words.old table.old s }
-    ensures { IfOk result (λ t. Sound words.new table.new t) }
-{
+fn step<W: Write>(out: &mut W, x: Item, build: &mut Builder) -> io::Result<()> {
     if x.kind == 27 {
-        asked::look(out, x, words, s.count)?;
-        return Ok(s);
+        return asked::look(out, x, build);
     }
-    if x.a < 64 {
-        if x.b < s.count {
-            if x.c < s.count {
-                if x.d < s.count {
-                    return act(out, x, words, table, s);
-                }
-            }
-        }
+    let count = build.store.count;
+    if x.a < 64 && x.b < count && x.c < count && x.d < count {
+        return act(out, x, build);
     }
-    stored::bytes(out, b"no node\n")?;
-    Ok(s)
+    stored::bytes(out, b"no node\n")
 }
 
 // All items up to one that is no operation.
-pub fn run<R: Read, W: Write>(
-    input: &mut R,
-    out: &mut W,
-    words: &mut [u32],
-    table: &mut Table,
-    s: Store,
-) -> io::Result<()>
-    requires { Sound words.old table.old s }
-{
-    let mut store = s;
+pub fn run<R: Read, W: Write>(input: &mut R, out: &mut W, build: &mut Builder) -> io::Result<()> {
     for _ in 0..1_000_000 {
         let x = stored::next(input)?;
         if x.kind < 11 {
             return Ok(());
         }
-        store = step(out, x, words, table, store)?;
+        step(out, x, build)?;
     }
     Ok(())
 }

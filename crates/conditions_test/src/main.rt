@@ -5,7 +5,7 @@
 mod asked;
 mod built;
 
-use conditions::{Store, Table};
+use conditions::{Builder, Store, Table};
 use std::io;
 use std::io::{BufReader, BufWriter, Read, Write};
 use stored::{Item, Words, length};
@@ -18,15 +18,19 @@ fn begin<R: Read, W: Write>(
     words: &mut [u32],
 ) -> io::Result<()> {
     let standard = nodes::is_standard(words, x.a);
-    stored::word(out, standard as u32)?;
+    stored::word(out, u32::from(standard))?;
     stored::bytes(out, b"\n")?;
     if standard {
         let mut table: Table = [0; 32768];
-        let s = Store {
-            count: x.a,
-            full: false,
+        let mut build = Builder {
+            words,
+            table: &mut table,
+            store: Store {
+                count: x.a,
+                full: false,
+            },
         };
-        built::run(input, out, words, &mut table, s)?;
+        built::run(input, out, &mut build)?;
     }
     Ok(())
 }
@@ -55,12 +59,10 @@ fn lend<R: Read, W: Write>(
 
 // So many words from place a on.
 fn show<W: Write>(out: &mut W, a: u32, many: u32, words: &Words) -> io::Result<()> {
-    let mut at = a;
-    for _ in 0..many {
-        if at < 49160 {
-            stored::word(out, words[at as usize])?;
+    for k in 0..many {
+        if let Some(word) = words.get(a.wrapping_add(k) as usize) {
+            stored::word(out, *word)?;
         }
-        at = at.wrapping_add(1);
     }
     stored::bytes(out, b"\n")
 }
@@ -78,8 +80,7 @@ fn run<R: Read, W: Write>(
     x: Item,
     words: &mut Words,
 ) -> io::Result<()> {
-    let kind = x.kind;
-    match kind {
+    match x.kind {
         2 => capacity(out, x.a),
         4 => show(out, x.a, x.b, words),
         9 => {

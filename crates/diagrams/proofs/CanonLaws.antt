@@ -1,14 +1,14 @@
 -- Trees that are reduced and in order are equal if their values are; so nodes are, in one store and across stores.
 use mathlib.Core.Path.{◌≡◌, refl, sym, ap, ◌∙◌}
-use mathlib.Core.Bool.{Bool, true, false, cond, true≢false}
+use mathlib.Core.Bool.{Bool, true, false, true≢false}
 use mathlib.Core.List.{List}
-use Prim.Native.Nat.{ℕ, zero, suc, ◌+◌, ◌<◌, ◌≤◌}
+use Prim.Native.Nat.{ℕ, zero, suc, ◌<◌, ◌≤◌}
 use native.Mathlib.Omega.{arith}
 use native.Mathlib.Decide.{ℕ_discrete, dec_lt}
 use lib.Dec.{eqb}
 use borrow.Author.Tests.{eq-eqb, ne_eqb}
 use Rattle.nodes.specs.Words.{var_at, low_at, high_at}
-use Rattle.nodes.specs.Standard.{Shape, Standard}
+use Rattle.nodes.specs.Standard.{Standard}
 use Rattle.diagrams.specs.Value.{Tree, leaf, branch, eval, tree_of, value}
 use Rattle.diagrams.specs.Assignment.{change}
 use Rattle.diagrams.proofs.AssignmentLaws.{change-same, change_other}

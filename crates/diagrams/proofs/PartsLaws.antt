@@ -2,15 +2,14 @@
 use mathlib.Core.Path.{◌≡◌, refl, sym}
 use mathlib.Core.Bool.{Bool, true, false, cond}
 use mathlib.Core.List.{List}
-use Prim.Native.Nat.{ℕ, ◌+◌, ◌<◌, ◌≤◌, min}
+use Prim.Native.Nat.{ℕ, ◌+◌, ◌<◌, ◌≤◌}
 use native.Mathlib.Omega.{arith}
 use native.Mathlib.Decide.{ℕ_discrete}
 use borrow.Author.Tests.{eq-eqb, ne_eqb}
 use Rattle.nodes.specs.Words.{var_at, low_at, high_at, child_at}
-use Rattle.nodes.specs.Standard.{Shape, Standard}
+use Rattle.nodes.specs.Standard.{Standard}
 use Rattle.nodes.proofs.GrowthLaws.{inner}
-use Rattle.diagrams.specs.Parts.{least_of, part_of, parts_of}
-use Rattle.diagrams.specs.declared.Parts.{Parts}
+use Rattle.diagrams.specs.Parts.{least_of, part_of}
 use Rattle.diagrams.specs.Value.{value}
 use Rattle.diagrams.proofs.ValueLaws.{value-step}
 
@@ -99,11 +98,3 @@ module _ {w : List ℕ} {c : ℕ} (f g h : ℕ) (r : Ready w c f g h) (p : f ≡
 
   pub parts-ready : (b : Bool) → Ready w c (part_of b w (least_of w f g h) f) (part_of b w (least_of w f g h) g) (part_of b w (least_of w f g h) h)
   parts-ready = small-ready f g h r least-small
-
--- the parts, read one by one
-pub divided : (w : List ℕ) (f g h : ℕ) {a b c m v f0 g0 h0 f1 g1 h1 : ℕ} → a ≡ var_at w f → b ≡ var_at w g → c ≡ var_at w h → m ≡ min b c → v ≡ min a m
-    → f0 ≡ part_of false w v f → g0 ≡ part_of false w v g → h0 ≡ part_of false w v h → f1 ≡ part_of true w v f → g1 ≡ part_of true w v g → h1 ≡ part_of true w v h
-    → ◌≡◌ {A = Parts} (record { v = v; f0 = f0; g0 = g0; h0 = h0; f1 = f1; g1 = g1; h1 = h1 }) (parts_of w f g h)
-divided w f g h {v = v} ea eb ec em ev e1 e2 e3 e4 e5 e6 =
-    let e : v ≡ least_of w f g h = cc in
-    rw (e1, e2, e3, e4, e5, e6, e)

@@ -7,10 +7,10 @@ use native.Mathlib.Omega.{arith}
 use lib.Dec.{eqb, ltb}
 use borrow.Author.Tests.{le-ltb, ltb-false}
 use Rattle.nodes.specs.Words.{var_at, low_at, high_at, child_at}
-use Rattle.nodes.specs.Standard.{Shape, Standard}
+use Rattle.nodes.specs.Standard.{Standard}
 use Rattle.nodes.specs.Extends.{Agree}
 use Rattle.nodes.proofs.ExtendsLaws.{agree_refl, agree_var, agree_low, agree-high}
-use Rattle.diagrams.specs.Value.{Tree, leaf, branch, eval, grow, tree_of, value}
+use Rattle.diagrams.specs.Value.{leaf, branch, eval, grow, tree_of, value}
 
 -- a tree is the same with more steps, and over words that agree on its nodes
 module _ {w w' : List ℕ} {c : ℕ} (g : Standard w c) (e : Agree w w' c) where

@@ -1,14 +1,15 @@
 // What the nodes of a decision diagram mean: a node's value under an assignment, and the parts of three nodes at their least variable.
 #![tactic(auto)]
 
-ghost use Rattle.std.specs.Prelude.{◌≡◌, ◌+◌, ◌*◌, ◌^◌, ◌<◌, min, length};
+ghost use Rattle.std.specs.Prelude.{◌≡◌, ◌^◌, ◌<◌};
 ghost use Rattle.nodes.specs.Words.{child_at};
-ghost use Rattle.nodes.specs.Standard.{Standard};
 ghost use Rattle.diagrams.specs.Value.{value};
 ghost use Rattle.diagrams.specs.Assignment.{bit_at};
 ghost use Rattle.diagrams.specs.Witness.{witness_of};
 ghost use Rattle.diagrams.specs.Parts.{part_of, parts_of};
 ghost use Rattle.diagrams.specs.Keys.{key_of, slot_of};
+
+use nodes::Diagrams;
 
 // The least top variable of three nodes, their low parts and their high parts.
 #[derive(Clone, Copy)]
@@ -22,51 +23,38 @@ pub struct Parts {
     pub h1: u32,
 }
 
-// The lesser of two numbers.
-fn least(a: u32, b: u32) -> u32
-    ensures { result ≡ min a b }
-{
-    if a < b { a } else { b }
-}
-
 // A node's low child, or its high child.
-fn child(words: &[u32], upper: bool, node: u32) -> u32
-    requires { node * 3 + 2 < length words.now }
-    ensures { result ≡ child_at upper words.now node }
+fn child(d: Diagrams, upper: bool, node: u32) -> u32
+    requires { node < d.count }
+    ensures { result ≡ child_at upper d.entry.words.now node }
 {
-    if upper {
-        nodes::high(words, node)
-    } else {
-        nodes::low(words, node)
-    }
+    if upper { d.high(node) } else { d.low(node) }
 }
 
 // A node's low part at a variable, or its high part: a node on another variable stands for both.
-fn part(words: &[u32], upper: bool, v: u32, node: u32) -> u32
-    requires { node * 3 + 2 < length words.now }
-    ensures { result ≡ part_of upper words.now v node }
+#[tactic(auto, unfolding(crate::specs::Parts::part_of))]
+fn part(d: Diagrams, upper: bool, v: u32, node: u32) -> u32
+    requires { node < d.count }
+    ensures { result ≡ part_of upper d.entry.words.now v node }
 {
-    if nodes::top(words, node) != v {
+    if d.top(node) != v {
         return node;
     }
-    child(words, upper, node)
+    child(d, upper, node)
 }
 
 // The least top variable of three nodes, and their parts at it.
-pub fn divide(words: &[u32], f: u32, g: u32, h: u32) -> Parts
-    requires { (f * 3 + 2 < length words.now) × (g * 3 + 2 < length words.now) × (h * 3 + 2 < length words.now) }
-    ensures { result ≡ parts_of words.now f g h }
+pub fn divide(d: Diagrams, f: u32, g: u32, h: u32) -> Parts
+    requires { (f < d.count) × (g < d.count) × (h < d.count) }
+    ensures { result ≡ parts_of d.entry.words.now f g h }
 {
-    let v = least(
-        nodes::top(words, f),
-        least(nodes::top(words, g), nodes::top(words, h)),
-    );
-    let f0 = part(words, false, v, f);
-    let g0 = part(words, false, v, g);
-    let h0 = part(words, false, v, h);
-    let f1 = part(words, true, v, f);
-    let g1 = part(words, true, v, g);
-    let h1 = part(words, true, v, h);
+    let v = d.top(f).min(d.top(g)).min(d.top(h));
+    let f0 = part(d, false, v, f);
+    let g0 = part(d, false, v, g);
+    let h0 = part(d, false, v, h);
+    let f1 = part(d, true, v, f);
+    let g1 = part(d, true, v, g);
+    let h1 = part(d, true, v, h);
     Parts {
         v,
         f0,
@@ -95,6 +83,7 @@ pub fn slot(f: u32, g: u32, h: u32) -> usize
 }
 
 // The bit of an assignment that is variable v.
+#[tactic(auto, unfolding(crate::specs::Assignment::bit_at))]
 fn bit(a: u64, v: u32) -> bool
     requires { v < 64 }
     ensures { result ≡ bit_at a v }
@@ -103,14 +92,14 @@ fn bit(a: u64, v: u32) -> bool
 }
 
 // A node's value under an assignment.
-pub fn evaluate(words: &[u32], count: u32, node: u32, a: u64) -> bool
-    requires { Standard words.now count × (node < count) }
-    ensures { result ≡ value words.now (bit_at a) node }
+pub fn evaluate(d: Diagrams, node: u32, a: u64) -> bool
+    requires { node < d.count }
+    ensures { result ≡ value d.entry.words.now (bit_at a) node }
 {
     let mut n = node;
     while 2 <= n {
-        let v = nodes::top(words, n);
-        n = child(words, bit(a, v), n);
+        let v = d.top(n);
+        n = child(d, bit(a, v), n);
     }
     n == 1
 }
@@ -124,17 +113,17 @@ fn power(v: u32) -> u64
 }
 
 // An assignment under which a node holds, unless it is node 0: down to the low child, and where that is node 0 to the high child.
-pub fn witness(words: &[u32], count: u32, node: u32) -> u64
-    requires { Standard words.now count × (node < count) }
-    ensures { result ≡ witness_of words.now node }
+pub fn witness(d: Diagrams, node: u32) -> u64
+    requires { node < d.count }
+    ensures { result ≡ witness_of d.entry.words.now node }
 {
     let mut a: u64 = 0;
     let mut n = node;
     while 2 <= n {
-        let low = nodes::low(words, n);
+        let low = d.low(n);
         if low == 0 {
-            a += power(nodes::top(words, n));
-            n = nodes::high(words, n);
+            a += power(d.top(n));
+            n = d.high(n);
         } else {
             n = low;
         }

@@ -2,143 +2,106 @@
 #![tactic(auto)]
 
 ghost use Rattle.std.specs.Prelude.{◌≡◌};
-ghost use Rattle.formula_calls.specs.Call.{asserting, checking, answer_by};
-ghost use Rattle.model.specs.Record.{with_count};
-ghost use Rattle.formula_access.specs.Contract.{answer_of, FormulaAnswers};
+ghost use Rattle.formula_calls.specs.Call.{asserting, checking};
+ghost use Rattle.formula_access.specs.Contract.{FormulaAnswers, unlisted_as};
+ghost use Rattle.formula_access.specs.declared.FormulaRefusal.TheVariants as refusal;
 
 use conditions::Table;
-use making::Made;
+use making::{Access, Asserts, Checks};
 use model::Fields;
-use preparing::Prepared;
+use preparing::Unlisted;
+use refusals::Refusal;
 
-// All that are listed were made; stopped at an access that a row refuses, with how many were made before it; refused by the call itself; or refused for the text, at a place in it.
+// Why not all accesses of a formula were made: one was refused, with how many are listed and were made before it; or the call itself was; or its text is at fault, at a place in it.
 #[derive(Clone, Copy)]
-pub enum FormulaAnswer {
-    AllMade {
-        listed: usize,
-    },
+pub enum FormulaRefusal {
     Stopped {
-        row: u32,
+        refusal: Refusal,
         listed: usize,
         made: usize,
     },
-    Refused(u32),
+    Refused(Refusal),
     Faulty {
-        row: u32,
+        refusal: Refusal,
         place: usize,
     },
 }
 
-// The record after a formula, and its answer.
-#[derive(Clone, Copy)]
-pub struct FormulaDone {
-    pub after: Fields,
-    pub answer: FormulaAnswer,
+impl From<Refusal> for FormulaRefusal {
+    ghost from_gives = { λ k e. e ≡ refusal.Refused k };
+
+    fn from(k: Refusal) -> FormulaRefusal {
+        FormulaRefusal::Refused(k)
+    }
 }
 
-// What the accesses come to.
-fn answered(m: Made, listed: usize) -> FormulaDone
-    ensures { (result.after ≡ m.after) × (answer_of result.answer ≡ answer_by m.row listed m.many) }
-{
-    let after = m.after;
-    let row = m.row;
-    if row != 0 {
-        return FormulaDone {
-            after,
-            answer: FormulaAnswer::Stopped {
-                row,
-                listed,
-                made: m.many,
+impl From<Unlisted> for FormulaRefusal {
+    ghost from_gives = { λ x e. e ≡ unlisted_as x };
+
+    fn from(x: Unlisted) -> FormulaRefusal {
+        match x {
+            Unlisted::Refused(k) => FormulaRefusal::Refused(k),
+            Unlisted::Faulty(f) => FormulaRefusal::Faulty {
+                refusal: f.refusal,
+                place: f.at,
             },
-        };
-    }
-    FormulaDone {
-        after,
-        answer: FormulaAnswer::AllMade { listed },
+        }
     }
 }
 
-// The record with another count of nodes.
-fn with_count(r: Fields, count: u32) -> Fields
-    ensures { result ≡ with_count r count }
+// Accesses by a written formula: how many they are.
+fn by_formula<A: Access>(
+    by: &mut A,
+    r: &mut Fields,
+    words: &mut [u32],
+    text: &[u8],
+    predicates: &[u32],
+    answer: &mut [u32],
+) -> Result<usize, FormulaRefusal>
+    ensures same { A.keeps by.old by.new }
+    ensures answers { FormulaAnswers A.kind text.now predicates.now answer.old r.old words.old (A.lent by.old) r.new words.new (A.lent by.new) answer.new result }
 {
-    let mut after = r;
-    after.count = count;
-    after
+    rows::memory_row(*r, words, by.list())?;
+    let mut table: Table = [0; 32768];
+    let x = preparing::prepare(*r, words, &mut table, text, predicates, answer)?;
+    r.count = x.count;
+    let listed = x.listed;
+    if let Err(s) = making::make(by, r, words, &mut table, predicates, answer, listed) {
+        return Err(FormulaRefusal::Stopped {
+            refusal: s.refusal,
+            listed,
+            made: s.made,
+        });
+    }
+    Ok(listed)
 }
 
 // Asserts by a written formula.
 pub fn assert_formula(
-    r: Fields,
+    r: &mut Fields,
     words: &mut [u32],
     list: &mut [u32],
     text: &[u8],
     predicates: &[u32],
     answer: &mut [u32],
-) -> FormulaDone
-    ensures { FormulaAnswers asserting text.now predicates.now answer.old r words.old list.old result.after words.new list.new answer.new result.answer }
+) -> Result<usize, FormulaRefusal>
+    ensures { FormulaAnswers asserting text.now predicates.now answer.old r.old words.old list.old r.new words.new list.new answer.new result }
 {
-    let k = rows::memory_row(r, words, list);
-    if k != 0 {
-        return FormulaDone {
-            after: r,
-            answer: FormulaAnswer::Refused(k),
-        };
-    }
-    let mut table: Table = [0; 32768];
-    let p = preparing::prepare(r, words, &mut table, text, predicates, answer);
-    match p {
-        Prepared::Refused(row) => FormulaDone {
-            after: r,
-            answer: FormulaAnswer::Refused(row),
-        },
-        Prepared::Faulty { row, place } => FormulaDone {
-            after: r,
-            answer: FormulaAnswer::Faulty { row, place },
-        },
-        Prepared::Listed { count, listed } => {
-            let after = with_count(r, count);
-            let m = making::make_asserts(
-                after, words, list, &mut table, predicates, answer, listed,
-            );
-            answered(m, listed)
-        }
-    }
+    let mut by = Asserts { list };
+    by_formula(&mut by, r, words, text, predicates, answer)
 }
 
 // Checks by one.
 pub fn check_formula(
-    r: Fields,
+    r: &mut Fields,
     words: &mut [u32],
     list: &[u32],
     text: &[u8],
     predicates: &[u32],
     answer: &mut [u32],
-) -> FormulaDone
-    ensures { FormulaAnswers checking text.now predicates.now answer.old r words.old list.now result.after words.new list.now answer.new result.answer }
+) -> Result<usize, FormulaRefusal>
+    ensures { FormulaAnswers checking text.now predicates.now answer.old r.old words.old list.now r.new words.new list.now answer.new result }
 {
-    let k = rows::memory_row(r, words, list);
-    if k != 0 {
-        return FormulaDone {
-            after: r,
-            answer: FormulaAnswer::Refused(k),
-        };
-    }
-    let mut table: Table = [0; 32768];
-    let p = preparing::prepare(r, words, &mut table, text, predicates, answer);
-    match p {
-        Prepared::Refused(row) => FormulaDone {
-            after: r,
-            answer: FormulaAnswer::Refused(row),
-        },
-        Prepared::Faulty { row, place } => FormulaDone {
-            after: r,
-            answer: FormulaAnswer::Faulty { row, place },
-        },
-        Prepared::Listed { count, listed } => {
-            let after = with_count(r, count);
-            let m = making::make_checks(after, words, list, &mut table, predicates, answer, listed);
-            answered(m, listed)
-        }
-    }
+    let mut by = Checks { list };
+    by_formula(&mut by, r, words, text, predicates, answer)
 }

@@ -1,30 +1,20 @@
 // Asserts and checks by a written formula, on the record.
 #![tactic(auto)]
 
-ghost use Rattle.std.specs.Prelude.{◌≡◌};
 ghost use Rattle.formula_calls.specs.Call.{asserting, checking};
 ghost use Rattle.formula_record.specs.Contract.{FormulaAnswersAnyPorts};
 
-pub use formula_access::FormulaAnswer;
-use formula_access::FormulaDone;
+pub use formula_access::FormulaRefusal;
 use memory::Record;
 
+// The record after a formula, and its answer.
 #[derive(Clone, Copy)]
 pub struct FormulaResult {
     pub after: Record,
-    pub answer: FormulaAnswer,
+    pub answer: Result<usize, FormulaRefusal>,
 }
 
-fn formula_result(d: FormulaDone) -> FormulaResult
-    ensures { (result.after.fields ≡ d.after) × (result.answer ≡ d.answer) }
-{
-    let fields = d.after;
-    let after = Record { fields };
-    let answer = d.answer;
-    FormulaResult { after, answer }
-}
-
-// Asserts by a written formula, over a table of predicates.
+// Asserts by a written formula, over a table of predicates: how many they are.
 pub fn assert_formula(
     r: Record,
     words: &mut [u32],
@@ -35,7 +25,12 @@ pub fn assert_formula(
 ) -> FormulaResult
     ensures { FormulaAnswersAnyPorts asserting text.now predicates.now answer.old r words.old list.old result.after words.new list.new answer.new result.answer }
 {
-    formula_result(formula_access::assert_formula(r.fields, words, list, text, predicates, answer))
+    let mut fields = r.fields;
+    let told = formula_access::assert_formula(&mut fields, words, list, text, predicates, answer);
+    FormulaResult {
+        after: Record { fields },
+        answer: told,
+    }
 }
 
 // Checks by one.
@@ -49,5 +44,10 @@ pub fn check_formula(
 ) -> FormulaResult
     ensures { FormulaAnswersAnyPorts checking text.now predicates.now answer.old r words.old list.now result.after words.new list.now answer.new result.answer }
 {
-    formula_result(formula_access::check_formula(r.fields, words, list, text, predicates, answer))
+    let mut fields = r.fields;
+    let told = formula_access::check_formula(&mut fields, words, list, text, predicates, answer);
+    FormulaResult {
+        after: Record { fields },
+        answer: told,
+    }
 }

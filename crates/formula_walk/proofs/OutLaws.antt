@@ -1,13 +1,6 @@
 -- Triples put into answer words.
-use mathlib.Core.Path.{◌≡◌, refl, sym, ap, ◌∙◌}
-use mathlib.Core.Bool.{Bool, true, false, cond}
-use mathlib.Core.List.{List, [], ◌∷◌, ◌++◌, append_assoc}
-use Prim.Native.Nat.{ℕ, suc, ◌+◌, ◌*◌, ◌/◌, ◌<◌, ◌≤◌}
-use native.Mathlib.Omega.{arith}
-use borrow.Author.Tests.{lt-ltb, le-ltb, eq-eqb, ne_eqb}
-use lib.Dec.{eqb}
-use lib.ListN.{length, take, drop, set}
-use lib.Seq.{sets, sets-eq}
+use Rattle.std.proofs.Common.{◌≡◌, ℕ, ◌+◌, ◌*◌, ◌/◌, ◌<◌, ◌≤◌, Bool, true, false, cond, List, [], ◌∷◌, ◌++◌, length, take, drop, eqb, refl, sym, ap, ◌∙◌, drop-drop, lt-ltb, le-ltb, eq-eqb, ne_eqb}
+use borrow.Rule.Slice.PartMut.{put_mid}
 use Rattle.formulas.specs.Language.{only}
 use Rattle.model.specs.Formula.{Triple}
 use Rattle.formula_walk.specs.declared.Pass.{Pass}
@@ -23,15 +16,12 @@ abbrev put_if : Triple → ℕ → List ℕ → Bool → Out
 put_if t listed out b = cond b (out_of (take (3 * listed) out ++ (t.step ∷ t.condition ∷ t.named ∷ drop (3 * listed + 3) out)) (listed + 1)) (out_of out listed)
 
 -- there is space
-pub put-fits : (t : Triple) (listed : ℕ) (out : List ℕ) → listed < length out / 3 → (k a b r : ℕ) → k ≡ 3 * listed → a ≡ suc k → b ≡ suc (suc k) → r ≡ listed + 1
-    → out_of (set (set (set out k t.step) a t.condition) b t.named) r ≡ put t (out_of out listed)
+pub put-fits : (t : Triple) (listed : ℕ) (out : List ℕ) → listed < length out / 3 → (n : ℕ) (ws : List ℕ) → n ≡ 3 → ws ≡ t.step ∷ t.condition ∷ t.named ∷ [] → out_of (put_mid (3 * listed) n out ws) (listed + 1) ≡ put t (out_of out listed)
 unfolding put
-put-fits t listed out h k a b r ek ea eb er =
-    let ws = t.step ∷ t.condition ∷ t.named ∷ [] in
-    let there : out_of (set (set (set out k t.step) a t.condition) b t.named) r ≡ out_of (sets out k ws) r =
-    rw (ea, eb) refl in
-    there ∙ ap (λ (l : List ℕ). out_of l r) (sets-eq ws out k (omega (arith, ek)) ∙ append_assoc (take k out) ws (drop (k + 3) out)) ∙ rw (ek, er) refl
-    ∙ sym (ap (put_if t listed out) (lt-ltb listed (length out / 3) h))
+put-fits t listed out h n ws e q =
+    let l : put_mid (3 * listed) n out ws ≡ take (3 * listed) out ++ (t.step ∷ t.condition ∷ t.named ∷ drop (3 * listed + 3) out) =
+    rw (q, e) (ap (λ (r : List ℕ). take (3 * listed) out ++ (t.step ∷ t.condition ∷ t.named ∷ r)) (drop-drop 3 (3 * listed) out)) in
+    ap (λ (l : List ℕ). out_of l (listed + 1)) l ∙ sym (ap (put_if t listed out) (lt-ltb listed (length out / 3) h))
 
 -- there is none
 pub put_full : (t : Triple) (listed : ℕ) (out : List ℕ) → length out / 3 ≤ listed → out_of out listed ≡ put t (out_of out listed)

@@ -10,20 +10,19 @@ use lib.Seq.{drop-cons}
 use Rattle.formulas.specs.Language.{digit, joined}
 use Rattle.formulas.specs.Reading.{spaces, byte, digits, numbered}
 use Rattle.formulas.proofs.CompleteLaws.{spaces-length}
+use Rattle.std.proofs.Common.{Ok, Err}
+use Rattle.refusals.specs.Refusal.{number}
 use Rattle.tokens.specs.declared.Token.{Token}
-use Rattle.tokens.specs.Contract.{starts, Took, took, stops, took_by, TookAt, number_token, opens, opener_token, arrow_token, then_took, when_token}
+use Rattle.tokens.specs.declared.Fault.{Fault}
+use Rattle.tokens.specs.Contract.{starts, Took, took, stops, TookAt, number_token, opens, opener_token, arrow_token, then_took, when_token}
 use Rattle.tokens.proofs.TokenLaws.{starts_in, starts_here}
 
 -- the token at a place, in the reader's terms
-pub took_is : {text : List ℕ} {t : Token} {x : Took} → TookAt text t x → t.row ≡ 0 → x ≡ took t.number (drop t.at text)
-took_is {text} {t} {x} T z = sym T.is ∙ ap (λ (k : ℕ). took_by k t.number (drop t.at text)) z
+pub took_is : {text : List ℕ} {t : Token} {x : Took} → TookAt text (Ok t) x → x ≡ took t.number (drop t.at text)
+took_is T = sym T.is
 
-pub stops_is : {text : List ℕ} {t : Token} {x : Took} → TookAt text t x → (t.row ≡ 0 → ⊥) → x ≡ stops t.row (drop t.at text)
-stops_is {text} {t} {x} T z = sym T.is ∙ go t.row refl
-  where
-    go : (k : ℕ) → t.row ≡ k → took_by t.row t.number (drop t.at text) ≡ stops t.row (drop t.at text)
-    go zero e = absurd (z e)
-    go (suc k) e = rw e refl
+pub stops_is : {text : List ℕ} {f : Fault} {x : Took} → TookAt text (Err f) x → x ≡ stops (number f.refusal) (drop f.at text)
+stops_is T = sym T.is
 
 -- the byte here
 pub byte_is : (text : List ℕ) (at c : ℕ) → starts c (drop at text) ≡ true → (get_or text at 0 ≡ c) × (drop at text ≡ c ∷ drop (suc at) text)

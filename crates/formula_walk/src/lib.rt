@@ -2,13 +2,16 @@
 // triples of one step each.
 #![tactic(auto)]
 
-ghost use Rattle.std.specs.Prelude.{◌≡◌, ◌+◌, ◌<◌, ◌≤◌, true, length, drop};
+ghost use Rattle.std.specs.Prelude.{◌≡◌, ◌+◌, ◌<◌, ◌≤◌, true, suc, length, get_or, drop};
 ghost use Rattle.formulas.specs.Language.{formula, conjunction, unit};
-ghost use Rattle.conditions.specs.Contract.{Sound, Did};
-ghost use Rattle.tokens.specs.Contract.{starts};
-ghost use Rattle.formula_walk.specs.Contract.{out_of, put, listed_by, MayCount, condition_in, moved, Behind, NamedAt, Closed, inner_of, Walks, ArrowIs, Begins, BegunIs, Goes, joins, Ended, MayWalk, Walked};
+ghost use Rattle.conditions.specs.Builder.{Did};
+ghost use Rattle.conditions.specs.User.{is_user};
+ghost use Rattle.tokens.specs.Contract.{starts, TookAt, when_token};
+ghost use Rattle.formula_walk.specs.Contract.{out_of, put, listed_by, MayCount, condition_in, Behind, NamedAt, Closed, inner_of, Walks, ArrowIs, Begins, BegunIs, Goes, Ended, MayWalk, Walked};
 
-use conditions::{Built, Store, Table};
+use conditions::{Builder, Diagrams};
+use refusals::Refusal;
+use tokens::{Fault, Token};
 
 // What a walk does: it counts the predicates, and builds nothing; or it builds the conditions, and writes the triples of one step.
 #[derive(Clone, Copy)]
@@ -33,26 +36,11 @@ pub struct Around {
     pub condition: u32,
 }
 
-// How far a walk has come: its place, and the row that stopped it there, or 0; how many predicates it has counted, or triples written; and the store.
+// How far a walk has come: its place, and how many predicates it has counted, or triples written.
 #[derive(Clone, Copy)]
 pub struct Walk {
     pub at: usize,
-    pub row: u32,
     pub listed: usize,
-    pub store: Store,
-}
-
-// A walk at another place, with a row that stops it there, or 0.
-fn moved(x: Walk, row: u32, at: usize) -> Walk
-    ensures { result ≡ moved x row at }
-{
-    let store = x.store;
-    Walk {
-        at,
-        row,
-        listed: x.listed,
-        store,
-    }
 }
 
 // Behind the byte at a walk's place, and its spaces.
@@ -60,7 +48,10 @@ fn behind(text: &[u8], y: Walk) -> Walk
     requires { y.at < length text.now }
     ensures { Behind text.now y result }
 {
-    moved(y, 0, tokens::spaces(text, y.at + 1))
+    Walk {
+        at: tokens::spaces(text, y.at + 1),
+        listed: y.listed,
+    }
 }
 
 // A triple, where there is space for it.
@@ -69,9 +60,7 @@ fn put_triple(out: &mut [u32], listed: usize, o: Around, named: u32) -> usize
 {
     if listed < out.len() / 3 {
         let k = 3 * listed;
-        out[k] = o.step;
-        out[k + 1] = o.condition;
-        out[k + 2] = named;
+        out[k..k + 3].copy_from_slice(&[o.step, o.condition, named]);
         return listed + 1;
     }
     listed
@@ -95,58 +84,40 @@ fn list(out: &mut [u32], pass: Pass, listed: usize, o: Around, named: u32) -> us
 }
 
 // The condition inside an arrow.
-fn condition_in(words: &mut [u32], table: &mut Table, pass: Pass, s: Store, c: u32, b: u32) -> Built
-    requires { Sound words.old table.old s × (c < s.count) × (b < s.count) }
-    ensures { Did s words.new table.new result (condition_in pass c b words.old s) }
+fn condition_in(build: &mut Builder, pass: Pass, c: u32, b: u32) -> u32
+    requires { (c < build.old.store.count) × (b < build.old.store.count) }
+    ensures { Did build.old build.new result (condition_in pass c b) }
 {
     match pass {
-        Pass::Count => Built { store: s, node: c },
-        Pass::List(_) => conditions::and(words, table, s, c, b),
+        Pass::Count => c,
+        Pass::List(_) => build.and(c, b),
     }
 }
 
 // `m` and its number.
-fn predicate(text: &[u8], out: &mut [u32], g: Plan, o: Around, x: Walk) -> Walk
+fn predicate(text: &[u8], out: &mut [u32], g: Plan, o: Around, x: Walk) -> Result<Walk, Fault>
     requires { Begins g o text.now x × (starts 109 (drop x.at text.now) ≡ true) }
     ensures { NamedAt g o text.now out.old x out.new result }
 {
-    let t = tokens::predicate_token(text, x.at, g.predicates);
-    if t.row != 0 {
-        return moved(x, t.row, t.at);
-    }
-    let pass = g.pass;
-    let listed = list(out, pass, x.listed, o, t.number);
-    let store = x.store;
-    Walk {
+    let t = tokens::predicate_token(text, x.at, g.predicates)?;
+    Ok(Walk {
         at: t.at,
-        row: 0,
-        listed,
-        store,
-    }
+        listed: list(out, g.pass, x.listed, o, t.number),
+    })
 }
 
 // Behind a formula in parentheses.
-fn close(text: &[u8], y: Walk) -> Walk
+fn close(text: &[u8], y: Walk) -> Result<Walk, Fault>
     requires { y.at ≤ length text.now }
     ensures { Closed text.now y result }
 {
-    if y.row != 0 {
-        return y;
-    }
     if !tokens::stands(text, y.at, b')') {
-        return moved(y, 15, y.at);
+        return Err(Fault {
+            refusal: Refusal::Language,
+            at: y.at,
+        });
     }
-    behind(text, y)
-}
-
-// Whether a unit that was read is joined to another.
-fn joined(text: &[u8], y: Walk) -> bool
-    ensures { result ≡ joins text.now y }
-{
-    if y.row != 0 {
-        return false;
-    }
-    tokens::stands(text, y.at, b'&')
+    Ok(behind(text, y))
 }
 
 // What is open inside an arrow, an `N` or parentheses, with so many more N and this condition.
@@ -161,47 +132,42 @@ fn inner(o: Around, more: u32, condition: u32) -> Around
     }
 }
 
-// How a formula begins: with no arrow; with one that a row refuses; or with one, inside which it goes on.
-#[derive(Clone, Copy)]
-enum Arrow {
-    Missing,
-    Stopped(Walk),
-    Inside(Around, Walk),
+// `b`, its number and the arrow, at the letter.
+fn arrow(text: &[u8], build: &Builder, g: Plan, o: Around, at: usize) -> Result<Token, Fault>
+    requires { (at < length text.now) × (2 ≤ g.count) × (g.count ≤ build.now.store.count) }
+    ensures { TookAt text.now result (when_token (is_user build.now.words.now g.count) o.allowed (get_or text.now at 0) (drop (suc at) text.now)) }
+{
+    let d = Diagrams {
+        words: build.words,
+        count: g.count,
+    };
+    tokens::when_token(text, at, d, o.allowed)
 }
 
-// `b`, its number and the arrow, and the condition inside it.
+// `b`, its number and the arrow, if they stand here: the condition inside them, and the place behind them.
 fn begin_formula(
     text: &[u8],
-    words: &mut [u32],
-    table: &mut Table,
+    build: &mut Builder,
     g: Plan,
     o: Around,
     x: Walk,
-) -> Arrow
-    requires { Walks g o text.now words.old table.old x }
-    ensures { ArrowIs g o text.now words.old x words.new table.new result }
+) -> Result<Option<(Around, Walk)>, Fault>
+    requires { Walks g o text.now build.old x }
+    ensures { ArrowIs g o text.now build.old x build.new result }
 {
     if !tokens::stands(text, x.at, b'b') {
-        return Arrow::Missing;
+        return Ok(None);
     }
-    let t = tokens::when_token(text, x.at, words, g.count, o.allowed);
-    if t.row != 0 {
-        return Arrow::Stopped(moved(x, t.row, t.at));
-    }
-    let pass = g.pass;
-    let store = x.store;
-    let c = condition_in(words, table, pass, store, o.condition, t.number);
-    let store = c.store;
+    let t = arrow(text, build, g, o, x.at)?;
+    let c = condition_in(build, g.pass, o.condition, t.number);
     let y = Walk {
         at: t.at,
-        row: 0,
         listed: x.listed,
-        store,
     };
-    Arrow::Inside(inner(o, 0, c.node), y)
+    Ok(Some((inner(o, 0, c), y)))
 }
 
-// How a unit begins: with a predicate, or what is no unit, and it is done; with `N`; or with `(`.
+// How a unit begins: with a predicate, and it is done; with `N`; or with `(`.
 #[derive(Clone, Copy)]
 enum Begun {
     Done(Walk),
@@ -210,48 +176,50 @@ enum Begun {
 }
 
 // A predicate, `N` or `(`.
-fn begin_unit(text: &[u8], out: &mut [u32], g: Plan, o: Around, x: Walk) -> Begun
+fn begin_unit(text: &[u8], out: &mut [u32], g: Plan, o: Around, x: Walk) -> Result<Begun, Fault>
     requires { Begins g o text.now x }
     ensures { BegunIs g o text.now out.old x out.new result }
 {
     if tokens::stands(text, x.at, b'm') {
-        return Begun::Done(predicate(text, out, g, o, x));
+        let y = predicate(text, out, g, o, x)?;
+        return Ok(Begun::Done(y));
     }
     let next = tokens::stands(text, x.at, b'N');
     let group = tokens::stands(text, x.at, b'(');
     if !(next | group) {
-        return Begun::Done(moved(x, 15, x.at));
+        return Err(Fault {
+            refusal: Refusal::Language,
+            at: x.at,
+        });
     }
-    let t = tokens::opener_token(text, x.at, o.allowed);
-    if t.row != 0 {
-        return Begun::Done(moved(x, t.row, t.at));
-    }
-    let y = moved(x, 0, t.at);
+    let t = tokens::opener_token(text, x.at, o.allowed)?;
+    let y = Walk {
+        at: t.at,
+        listed: x.listed,
+    };
     if next {
-        return Begun::Next(inner(o, 1, o.condition), y);
+        return Ok(Begun::Next(inner(o, 1, o.condition), y));
     }
-    Begun::Group(inner(o, 0, o.condition), y)
+    Ok(Begun::Group(inner(o, 0, o.condition), y))
 }
 
 // A conjunction, or `b` number `->` formula.
 #[cycle(conjunction_formula_unit)]
 fn formula(
     text: &[u8],
-    words: &mut [u32],
-    table: &mut Table,
+    build: &mut Builder,
     out: &mut [u32],
     g: Plan,
     o: Around,
     x: Walk,
-) -> Walk
-    requires { Walks g o text.now words.old table.old x }
-    ensures { Goes g o formula text.now words.old out.old x words.new table.new out.new result }
+) -> Result<Walk, Fault>
+    requires { Walks g o text.now build.old x }
+    ensures { Goes g o formula text.now build.old out.old x build.new out.new result }
 {
-    let b = begin_formula(text, words, table, g, o, x);
+    let b = begin_formula(text, build, g, o, x)?;
     match b {
-        Arrow::Missing => conjunction(text, words, table, out, g, o, x),
-        Arrow::Stopped(y) => y,
-        Arrow::Inside(a, y) => formula(text, words, table, out, g, a, y),
+        None => conjunction(text, build, out, g, o, x),
+        Some((a, y)) => formula(text, build, out, g, a, y),
     }
 }
 
@@ -259,84 +227,81 @@ fn formula(
 #[cycle(conjunction_formula_unit)]
 fn conjunction(
     text: &[u8],
-    words: &mut [u32],
-    table: &mut Table,
+    build: &mut Builder,
     out: &mut [u32],
     g: Plan,
     o: Around,
     x: Walk,
-) -> Walk
-    requires { Walks g o text.now words.old table.old x }
-    ensures { Goes g o conjunction text.now words.old out.old x words.new table.new out.new result }
+) -> Result<Walk, Fault>
+    requires { Walks g o text.now build.old x }
+    ensures { Goes g o conjunction text.now build.old out.old x build.new out.new result }
 {
-    let mut y = unit(text, words, table, out, g, o, x);
-    while joined(text, y) {
+    let mut y = unit(text, build, out, g, o, x)?;
+    while tokens::stands(text, y.at, b'&') {
         let z = behind(text, y);
-        y = unit(text, words, table, out, g, o, z);
+        y = unit(text, build, out, g, o, z)?;
     }
-    y
+    Ok(y)
 }
 
 // `m` number, `N` unit, or a formula in parentheses.
 #[cycle(conjunction_formula_unit)]
 fn unit(
     text: &[u8],
-    words: &mut [u32],
-    table: &mut Table,
+    build: &mut Builder,
     out: &mut [u32],
     g: Plan,
     o: Around,
     x: Walk,
-) -> Walk
-    requires { Walks g o text.now words.old table.old x }
-    ensures { Goes g o unit text.now words.old out.old x words.new table.new out.new result }
+) -> Result<Walk, Fault>
+    requires { Walks g o text.now build.old x }
+    ensures { Goes g o unit text.now build.old out.old x build.new out.new result }
 {
-    let b = begin_unit(text, out, g, o, x);
+    let b = begin_unit(text, out, g, o, x)?;
     match b {
-        Begun::Done(y) => y,
-        Begun::Next(a, y) => unit(text, words, table, out, g, a, y),
-        Begun::Group(a, y) => close(text, formula(text, words, table, out, g, a, y)),
+        Begun::Done(y) => Ok(y),
+        Begun::Next(a, y) => unit(text, build, out, g, a, y),
+        Begun::Group(a, y) => {
+            let z = formula(text, build, out, g, a, y)?;
+            close(text, z)
+        }
     }
 }
 
 // Behind a whole formula: the text ends there, or what follows is outside the language.
-fn ended(text: &[u8], y: Walk) -> Walk
+fn ended(text: &[u8], y: Walk) -> Result<Walk, Fault>
     requires { y.at ≤ length text.now }
     ensures { Ended text.now y result }
 {
-    if y.row != 0 {
-        return y;
-    }
     if y.at < text.len() {
-        return moved(y, 15, y.at);
+        return Err(Fault {
+            refusal: Refusal::Language,
+            at: y.at,
+        });
     }
-    y
+    Ok(y)
 }
 
 // A walk over a whole text, with so many triples already written.
 pub fn walk_text(
     text: &[u8],
-    words: &mut [u32],
-    table: &mut Table,
+    build: &mut Builder,
     out: &mut [u32],
     g: Plan,
     listed: usize,
-    s: Store,
-) -> Walk
-    requires { MayWalk g words.old table.old listed s }
-    ensures { Walked g text.now words.old out.old listed s words.new table.new out.new result }
+) -> Result<Walk, Fault>
+    requires { MayWalk g build.old listed }
+    ensures { Walked g text.now build.old out.old listed build.new out.new result }
 {
-    let at = tokens::spaces(text, 0);
     let x = Walk {
-        at,
-        row: 0,
+        at: tokens::spaces(text, 0),
         listed,
-        store: s,
     };
     let o = Around {
         allowed: 32,
         step: 0,
         condition: 1,
     };
-    ended(text, formula(text, words, table, out, g, o, x))
+    let y = formula(text, build, out, g, o, x)?;
+    ended(text, y)
 }

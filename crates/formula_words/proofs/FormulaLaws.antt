@@ -1,17 +1,15 @@
 -- A formula by the record that six words are, and the record written back.
-use mathlib.Core.Path.{◌≡◌, sym, ap, ap₂, ◌∙◌}
-use mathlib.Core.List.{List, []}
-use Prim.Native.Nat.{ℕ}
+use Rattle.std.proofs.Common.{◌≡◌, ℕ, List, [], Result, sym, ap, ap₂, ◌∙◌}
 use Rattle.model.specs.Record as model
 use Rattle.memory.specs.declared.Record.{Record}
 use Rattle.formula_record.specs.Contract.{FormulaAnswersAnyPorts}
-use Rattle.formula_access.specs.declared.FormulaAnswer.{FormulaAnswer}
+use Rattle.formula_access.specs.declared.FormulaRefusal.{FormulaRefusal}
 use Rattle.formula_access.specs.Contract.{answer_of}
 use Rattle.formula_calls.specs.Call.{Making, FormulaResult, formula_step}
 use Rattle.record_words.specs.Words.{record_in, words_of}
 use Rattle.formula_words.specs.Contract.{Told, told, tells, left_formula, formula_by, formula_called}
 
-pub formula_is : (k : Making) (text table : List ℕ) {m m' : Record} {r' w' l' a' : List ℕ} (r w l a : List ℕ) (n i p : ℕ) (x : FormulaAnswer) {j n' i' p' : ℕ}
+pub formula_is : (k : Making) (text table : List ℕ) {m m' : Record} {r' w' l' a' : List ℕ} (r w l a : List ℕ) (n i p : ℕ) (x : Result ℕ FormulaRefusal) {j n' i' p' : ℕ}
     → m.fields ≡ record_in r
     → FormulaAnswersAnyPorts k text table a m w l m' w' l' a' x
     → r' ≡ words_of m'.fields

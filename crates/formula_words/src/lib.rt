@@ -6,7 +6,7 @@ ghost use Rattle.formula_calls.specs.Call.{asserting, checking};
 ghost use Rattle.formula_access.specs.Contract.{answer_of};
 ghost use Rattle.formula_words.specs.Contract.{Told, tells, told, left_formula, formula_called};
 
-use formula_record::FormulaAnswer;
+use formula_record::FormulaRefusal;
 use record_words::RecordWords;
 
 // Asserts by a written formula.
@@ -23,17 +23,10 @@ pub fn assert_formula(
 ) -> u32
     ensures { left_formula result «record».new nodes.new list.new answer.new listed.new made.new place.new ≡ formula_called asserting text.now table.now «record».old nodes.old list.old answer.old listed.old made.old place.old }
 {
-    let x = formula_record::assert_formula(
-        record_words::record_of(record),
-        nodes,
-        list,
-        text,
-        table,
-        answer,
-    );
+    let r = record_words::record_of(record);
+    let x = formula_record::assert_formula(r, nodes, list, text, table, answer);
     record_words::put_record(record, x.after);
-    let a = x.answer;
-    tell(a, listed, made, place)
+    tell(x.answer, listed, made, place)
 }
 
 // Checks by one.
@@ -50,42 +43,37 @@ pub fn check_formula(
 ) -> u32
     ensures { left_formula result «record».new nodes.new list.now answer.new listed.new made.new place.new ≡ formula_called checking text.now table.now «record».old nodes.old list.now answer.old listed.old made.old place.old }
 {
-    let x = formula_record::check_formula(
-        record_words::record_of(record),
-        nodes,
-        list,
-        text,
-        table,
-        answer,
-    );
+    let r = record_words::record_of(record);
+    let x = formula_record::check_formula(r, nodes, list, text, table, answer);
     record_words::put_record(record, x.after);
-    let a = x.answer;
-    tell(a, listed, made, place)
+    tell(x.answer, listed, made, place)
 }
 
 // The number of an answer, and its out-words: those that it does not tell stay.
-fn tell(a: FormulaAnswer, listed: &mut u64, made: &mut u64, place: &mut u64) -> u32
-    ensures { told result listed.new made.new place.new ≡ tells (answer_of a) listed.old made.old place.old }
+fn tell(x: Result<usize, FormulaRefusal>, listed: &mut u64, made: &mut u64, place: &mut u64) -> u32
+    ensures { told result listed.new made.new place.new ≡ tells (answer_of x) listed.old made.old place.old }
 {
-    match a {
-        FormulaAnswer::AllMade { listed: n } => {
+    match x {
+        Ok(n) => {
             *listed = n as u64;
             *made = n as u64;
             0
         }
-        FormulaAnswer::Stopped {
-            row,
-            listed: n,
-            made: m,
-        } => {
+        Err(
+            FormulaRefusal::Stopped {
+                refusal,
+                listed: n,
+                made: m,
+            },
+        ) => {
             *listed = n as u64;
             *made = m as u64;
-            row
+            refusal.number()
         }
-        FormulaAnswer::Refused(row) => row,
-        FormulaAnswer::Faulty { row, place: p } => {
+        Err(FormulaRefusal::Refused(refusal)) => refusal.number(),
+        Err(FormulaRefusal::Faulty { refusal, place: p }) => {
             *place = p as u64;
-            row
+            refusal.number()
         }
     }
 }

@@ -2,75 +2,31 @@
 // A line for each call: its number, what it returned, its out-words, the record, and every word that it changed in a buffer, lent or not.
 #![tactic(auto)]
 
-mod calls;
+mod buffers;
 
+use buffers::Buffers;
 use std::io;
 use std::io::{BufReader, BufWriter, Read, Write};
-use stored::{Bytes, Item, RecordWords, Words};
-
-// The first number says which buffer.
-fn store(
-    x: Item,
-    nodes: &mut Words,
-    list: &mut Words,
-    text: &mut Bytes,
-    table: &mut Words,
-    answer: &mut Words,
-) {
-    let buffer = x.a;
-    match buffer {
-        0 => stored::put(x, nodes),
-        1 => stored::put(x, list),
-        2 => stored::put_bytes(x, text),
-        3 => stored::put(x, table),
-        _ => stored::put(x, answer),
-    }
-}
-
-// An item; the record after it.
-fn run<W: Write>(
-    out: &mut W,
-    x: Item,
-    r: RecordWords,
-    nodes: &mut Words,
-    list: &mut Words,
-    text: &mut Bytes,
-    table: &mut Words,
-    answer: &mut Words,
-) -> io::Result<RecordWords> {
-    if x.kind == 10 {
-        return Ok([x.a, x.b, x.c, x.d, x.e, x.f]);
-    }
-    if x.kind == 9 {
-        store(x, nodes, list, text, table, answer);
-        return Ok(r);
-    }
-    calls::call(out, x, r, nodes, list, text, table, answer)
-}
+use stored::Kind;
 
 // All items, on buffers of zeros at first.
 fn run_all<R: Read, W: Write>(input: &mut R, out: &mut W) -> io::Result<()> {
-    let mut r: RecordWords = [0; 6];
-    let mut nodes: Words = [0; 49160];
-    let mut list: Words = [0; 49160];
-    let mut text: Bytes = [0; 65600];
-    let mut table: Words = [0; 49160];
-    let mut answer: Words = [0; 49160];
+    let mut buffers = Buffers {
+        record: [0; 6],
+        nodes: [0; 49160],
+        list: [0; 49160],
+        text: [0; 65600],
+        table: [0; 49160],
+        answer: [0; 49160],
+    };
     for _ in 0..1_000_000 {
         let x = stored::next(input)?;
-        if x.kind == 0 {
-            return Ok(());
+        match Kind::from(x.kind) {
+            Kind::End => return Ok(()),
+            Kind::Put => buffers.put(x),
+            Kind::Record => buffers.record = [x.a, x.b, x.c, x.d, x.e, x.f],
+            Kind::Own => buffers.call(out, x)?,
         }
-        r = run(
-            out,
-            x,
-            r,
-            &mut nodes,
-            &mut list,
-            &mut text,
-            &mut table,
-            &mut answer,
-        )?;
     }
     Ok(())
 }

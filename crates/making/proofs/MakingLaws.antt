@@ -1,36 +1,35 @@
 -- Accesses by triples, one after the other.
-use mathlib.Core.Path.{◌≡◌, refl, sym, ap, ap₂, subst, ◌∙◌}
-use mathlib.Core.List.{List, [], ◌∷◌}
-use Prim.Native.Nat.{ℕ, zero, suc, ◌+◌, ◌*◌, ◌-◌, ◌<◌, ◌≤◌}
-use native.Mathlib.Omega.{arith}
-use lib.ListN.{length, get_or}
+use Rattle.std.proofs.Common.{◌≡◌, ℕ, suc, ◌+◌, ◌*◌, ◌-◌, ◌<◌, ◌≤◌, List, [], ◌∷◌, length, get_or, Ok, Err, refl, sym, ap, ap₂, subst, ◌∙◌, arith}
 use Rattle.semantics.specs.declared.Sizes.{Sizes}
-use Rattle.model.specs.Record.{address_words, cell_words, part}
+use Rattle.refusals.specs.declared.Refusal.{Refusal}
+use Rattle.refusals.specs.Refusal.{number}
+use Rattle.model.specs.Record.{address_words, cell_words}
 use Rattle.model.specs.Formula.{Triple}
-use Rattle.model.specs.Step.{State, Access, access, Given, done, is_refused, Result, step}
+use Rattle.model.specs.Step.{State, Access, access, Given, done, refused, is_refused, Result}
 use Rattle.model.specs.Frames.{Valid, SuccessLeaves, StaysValid}
 use Rattle.model.proofs.FrameLaws.{stays-valid, success-leaves}
 use Rattle.model.proofs.ListLaws.{part_length}
 use Rattle.formula_calls.specs.Call.{Making, asserting, checking, predicate_words, address_at, word_at, access_by, accesses_by, Made, one_more, make}
 use Rattle.model.specs.declared.Fields.{Fields}
 use Rattle.building.specs.Contract.{shape}
-use Rattle.rows.specs.Contract.{state_of, unless_refused, Answers, AnswersOn}
-use Rattle.making.specs.declared.Place.{Place}
-use Rattle.making.specs.Contract.{triple_at, triples_from, Named, NamedAt, Ready, MadeAs}
+use Rattle.rows.specs.Contract.{state_of, Answers}
+use Rattle.making.specs.Contract.{triple_at, triples_from, Named, Ready, MayAccess, access_of, Accessed, MadeAs}
 
 -- the words of the predicate that a triple names
-module _ {r : Fields} {predicates triples : List ℕ} {i : ℕ} {p : Place} (N : NamedAt r predicates triples i p) where
-  pub address-size : length (part predicates p.at p.word) ≡ address_words r
-  address-size = rw (part_length predicates p.at p.word (omega (arith, N.word)) (omega (arith, N.word, N.fits))) (omega (arith, N.word))
+module _ {r : Fields} {predicates triples : List ℕ} {i : ℕ} (N : Named r predicates triples i) where
+  address-size : length (address_at r predicates (triple_at triples i).named) ≡ address_words r
+  address-size = let a = (triple_at triples i).named * predicate_words r in rw (part_length predicates a (a + address_words r) (omega arith) (omega (arith, N.fits))) (omega arith)
 
-  pub word_size : length (part predicates p.word p.«end») ≡ cell_words r
-  word_size = rw (part_length predicates p.word p.«end» (omega (arith, N.word, N.«end»)) (omega (arith, N.«end», N.fits))) (omega (arith, N.word, N.«end»))
+  word_size : length (word_at r predicates (triple_at triples i).named) ≡ cell_words r
+  word_size = let a = (triple_at triples i).named * predicate_words r in rw (part_length predicates (a + address_words r) (a + predicate_words r) (omega arith) (omega (arith, N.fits))) (omega arith)
 
-  pub address_is : part predicates p.at p.word ≡ address_at r predicates (triple_at triples i).named
-  address_is = rw (N.word, N.is) refl
+  pub may-access : {w l t a d : List ℕ} → Ready r w l t → a ≡ address_at r predicates (triple_at triples i).named → d ≡ word_at r predicates (triple_at triples i).named → MayAccess r w l t a d
+  may-access R e f = record { ready = R; pairs = ap (length {A = ℕ}) e ∙ address-size; word = ap (length {A = ℕ}) f ∙ word_size }
 
-  pub word_is : part predicates p.word p.«end» ≡ word_at r predicates (triple_at triples i).named
-  word_is = rw (N.word, N.«end», N.is) refl
+-- the access of a triple, by its words
+pub access_is : (k : Making) (r : Fields) (table : List ℕ) (t : Triple) {b : ℕ} {a d : List ℕ} → b ≡ t.condition → a ≡ address_at r table t.named → d ≡ word_at r table t.named → access_of k b a d ≡ access_by k r table t
+access_is asserting r table t e f g = rw (e, f, g)
+access_is checking r table t e f g = rw (e, f, g)
 
 -- so many made before
 abbrev pub made_before : ℕ → Made → Made
@@ -58,11 +57,14 @@ none_so_far k r w l t predicates triples listed R = record { within = omega arit
     none_before : (m : Made) → m ≡ made_before 0 m
     none_before m = let e : m.many ≡ 0 + m.many = omega arith in ap (λ (n : ℕ). record { many = n; row = m.row; after = m.after }) e
 
--- one step of making
-make-step : (c : Access) (cs : List Access) (s t : State) (row : ℕ) (g : Given) → Answers c s t (unless_refused row g) → (row ≡ 0 → make (c ∷ cs) s ≡ one_more (make cs t)) × ((row ≡ 0 → ⊥) → make (c ∷ cs) s ≡ record { many = 0; row = row; after = t })
+-- one step of making: it is made, or a row refuses it
+step-made : (c : Access) (cs : List Access) (s t : State) (g : Given) → Answers c s t (done g) → make (c ∷ cs) s ≡ one_more (make cs t)
 unfolding make
-make-step c cs s t zero g e = (λ z. rw e refl, λ n. absurd (n refl))
-make-step c cs s t (suc k) g e = (λ z. absurd (let q : ◌≡◌ {A = ℕ} (suc k) 0 = z in omega (arith, q)), λ n. rw e refl)
+step-made c cs s t g e = rw e
+
+step-refused : (c : Access) (cs : List Access) (s t : State) (n : ℕ) → Answers c s t (refused n) → make (c ∷ cs) s ≡ record { many = 0; row = n; after = t }
+unfolding make
+step-refused c cs s t n e = rw e
 
 module _ {k : Making} {r : Fields} {w l predicates triples : List ℕ} {listed : ℕ} {r' : Fields} {w' l' t' : List ℕ} {i : ℕ} (S : SoFar k r w l predicates triples listed r' w' l' t' i) where
   pub so_far-named : Named r predicates triples i → Named r' predicates triples i
@@ -83,34 +85,40 @@ module _ {k : Making} {r : Fields} {w l predicates triples : List ℕ} {listed :
       ap (λ (j : ℕ). make (accesses_by k r predicates (triples_from triples i j)) s) e
       ∙ ap₂ (λ (c : Access) (j : ℕ). make (c ∷ accesses_by k r predicates (triples_from triples j (listed - (i + 1)))) s) (sym (access-same k r r' predicates (triple_at triples i) S.same)) n
 
-  module _ {r'' : Fields} {w'' l'' t'' : List ℕ} (row : ℕ) (g : Given) (h : i < listed) (A : AnswersOn (access_by k r' predicates (triple_at triples i)) (state_of r' w' l') (state_of r'' w'' l'') (unless_refused row g) t'') where
-    made-step : (row ≡ 0 → make (access_by k r' predicates (triple_at triples i) ∷ accesses_by k r predicates (triples_from triples (i + 1) (listed - (i + 1)))) (state_of r' w' l')
-        ≡ one_more (make (accesses_by k r predicates (triples_from triples (i + 1) (listed - (i + 1)))) (state_of r'' w'' l'')))
-        × ((row ≡ 0 → ⊥) → make (access_by k r' predicates (triple_at triples i) ∷ accesses_by k r predicates (triples_from triples (i + 1) (listed - (i + 1)))) (state_of r' w' l')
-        ≡ record { many = 0; row = row; after = state_of r'' w'' l'' })
-    made-step = make-step (access_by k r' predicates (triple_at triples i)) (accesses_by k r predicates (triples_from triples (i + 1) (listed - (i + 1)))) (state_of r' w' l') (state_of r'' w'' l'') row g A.is
+  module _ {b : ℕ} {a d : List ℕ} (h : i < listed) (eb : b ≡ (triple_at triples i).condition) (ea : a ≡ address_at r' predicates (triple_at triples i).named) (ed : d ≡ word_at r' predicates (triple_at triples i).named) where
+    -- the access by the next triple
+    by-triple : access_by k r' predicates (triple_at triples i) ≡ access_of k b a d
+    by-triple = sym (access_is k r' predicates (triple_at triples i) eb ea ed)
 
-    pub so_far-next : row ≡ 0 → SoFar k r w l predicates triples listed r'' w'' l'' t'' (i + 1)
+    pub so_far-next : {r'' : Fields} {w'' l'' t'' : List ℕ} {u : Unit {0}} → Accessed (access_of k b a d) (state_of r' w' l') (state_of r'' w'' l'') (Ok u) t'' → SoFar k r w l predicates triples listed r'' w'' l'' t'' (i + 1)
     unfolding SuccessLeaves StaysValid
-    so_far-next z =
-        let c = access (access_by k r' predicates (triple_at triples i)) in
-        let B : step c (state_of r' w' l') ≡ record { answer = done g; after = state_of r'' w'' l'' } = A.is ∙ ap (λ (j : ℕ). record { answer = unless_refused j g; after = state_of r'' w'' l'' }) z in
-        let E = success-leaves c (state_of r' w' l') refl (ap (λ (x : Result). is_refused x.answer) B) in
-        let n = ap (λ (x : Result). x.after.rec.sizes) B in
+    so_far-next {r''} {w''} {l''} {t''} {u} A =
+        let c = access (access_of k b a d) in
+        let s = state_of r' w' l' in
+        let E = success-leaves c s refl (ap (λ (x : Result). is_refused x.answer) A.is.is) in
+        let n = ap (λ (x : Result). x.after.rec.sizes) A.is.is in
         record {
           within = omega (arith, h);
-          ready = record { valid = subst Valid (ap (λ (x : Result). x.after) B) (stays-valid c (state_of r' w' l') S.ready.valid); sound = A.sound (ap (λ (j : ℕ). is_refused (unless_refused j g)) z) };
+          ready = record { valid = subst Valid (ap (λ (x : Result). x.after) A.is.is) (stays-valid c s S.ready.valid); sound = A.is.sound refl };
           same = sym n ∙ E.same.sizes ∙ S.same;
-          is = S.is ∙ ap (made_before i) (ahead h (state_of r' w' l') ∙ made-step.0 z) ∙ more (make (accesses_by k r predicates (triples_from triples (i + 1) (listed - (i + 1)))) (state_of r'' w'' l''));
+          is =
+              S.is ∙ ap (made_before i) (ahead h s ∙ ap (λ (c : Access). make (c ∷ accesses_by k r predicates (triples_from triples (i + 1) (listed - (i + 1)))) s) by-triple ∙ step-made (access_of k b a d) _ s (state_of r'' w'' l'') A.gives A.is.is)
+              ∙ more (make (accesses_by k r predicates (triples_from triples (i + 1) (listed - (i + 1)))) (state_of r'' w'' l''));
         }
       where
         more : (m : Made) → made_before i (one_more m) ≡ made_before (i + 1) m
         more m = let e : i + suc m.many ≡ i + 1 + m.many = omega arith in ap (λ (n : ℕ). record { many = n; row = m.row; after = m.after }) e
 
-    pub so_far-refused : (row ≡ 0 → ⊥) → MadeAs k r w l predicates triples listed r'' w'' l'' row i
-    so_far-refused n = record { is = S.is ∙ ap (made_before i) (ahead h (state_of r' w' l') ∙ made-step.1 n) ∙ (let e : i + 0 ≡ i = omega arith in ap (λ (m : ℕ). record { many = m; row = row; after = state_of r'' w'' l'' }) e) }
+    pub so_far-refused : {r'' : Fields} {w'' l'' t'' : List ℕ} {f : Refusal} → Accessed (access_of k b a d) (state_of r' w' l') (state_of r'' w'' l'') (Err f) t'' → MadeAs k r w l predicates triples listed r'' w'' l'' (Err (record { refusal = f; made = i }))
+    so_far-refused {r''} {w''} {l''} {t''} {f} A =
+        let s = state_of r' w' l' in
+        record {
+          is =
+              S.is ∙ ap (made_before i) (ahead h s ∙ ap (λ (c : Access). make (c ∷ accesses_by k r predicates (triples_from triples (i + 1) (listed - (i + 1)))) s) by-triple ∙ step-refused (access_of k b a d) _ s (state_of r'' w'' l'') (number f) A.is.is)
+              ∙ (let e : i + 0 ≡ i = omega arith in ap (λ (m : ℕ). record { many = m; row = number f; after = state_of r'' w'' l'' }) e);
+        }
 
-  pub so_far_all : listed ≤ i → MadeAs k r w l predicates triples listed r' w' l' 0 listed
+  pub so_far_all : {u : Unit {0}} → listed ≤ i → MadeAs k r w l predicates triples listed r' w' l' (Ok u)
   unfolding make
   so_far_all h =
       let e : listed - i ≡ 0 = omega (arith, h) in

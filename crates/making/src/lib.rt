@@ -1,25 +1,122 @@
 // The accesses that a formula lists, made one after the other, up to the first that is refused.
 #![tactic(auto)]
 
-ghost use Rattle.std.specs.Prelude.{◌≡◌, ℕ, ◌*◌, ◌<◌, ◌≤◌};
-ghost use Rattle.model.specs.Step.{accepted};
-ghost use Rattle.formula_calls.specs.Call.{asserting, checking, access_by, predicate_words};
-ghost use Rattle.rows.specs.Contract.{state_of, unless_refused, AnswersOn};
-ghost use Rattle.assert_access.specs.Contract.{assert_answer};
-ghost use Rattle.making.specs.Contract.{triple_at, Named, NamedAt, Makes, MayMake, MadeAs};
+ghost use Rattle.std.specs.Prelude.{◌≡◌, List, ℕ, length, refl};
+ghost use Rattle.std.proofs.Common.{◌∙◌};
+ghost use Rattle.formula_calls.specs.Call.{Making, asserting, checking, predicate_words, address_at, word_at};
+ghost use Rattle.rows.specs.Contract.{state_of};
+ghost use Rattle.making.specs.Contract.{triple_at, Named, MayAccess, access_of, Accessed, MayMake, MadeAs};
 
-use assert_access::AssertDone;
 use building::ControlNode;
 use conditions::Table;
 use model::Fields;
-use rows::Done;
+use refusals::Refusal;
 
-// The record that is left, the row of the first access that was refused, or 0, and how many were made before it.
+// How the accesses of a formula are made.
+pub trait Access {
+    // Whether they are asserts or checks; the list that they are lent; and that a lent list is the same.
+    ghost kind: { Making };
+
+    ghost lent: { Self → List ℕ };
+
+    ghost keeps: { Self → Self → Type 0 };
+
+    fn list(&self) -> &[u32]
+        ensures { result.now ≡ lent self.now };
+
+    // An access to a valid memory. After one that is accepted the table is right for the next.
+    fn access(
+        &mut self,
+        r: &mut Fields,
+        words: &mut [u32],
+        table: &mut Table,
+        b: ControlNode,
+        address: &[u32],
+        data: &[u32],
+    ) -> Result<(), Refusal>
+        requires { MayAccess r.old words.old (lent self.old) table.old address.now «data».now }
+        ensures same { keeps self.old self.new }
+        ensures made { Accessed (access_of kind b.0 address.now «data».now) (state_of r.old words.old (lent self.old)) (state_of r.new words.new (lent self.new)) result table.new };
+
+    ghost keeps_refl: { (x : Self) → keeps x x };
+
+    ghost keeps_trans: { (x y z : Self) → keeps x y → keeps y z → keeps x z };
+}
+
+// Asserts, which enter the list that they are lent.
+#[derive(Drop)]
+pub struct Asserts<'a> {
+    pub list: &'a mut [u32],
+}
+
+impl<'a> Access for Asserts<'a> {
+    ghost kind = { asserting };
+
+    ghost lent = { λ s. s.list.now };
+
+    ghost keeps = { λ s t. (t.list.ghost_name ≡ s.list.ghost_name) × (length t.list.now ≡ length s.list.now) };
+
+    fn list(&self) -> &[u32] {
+        self.list
+    }
+
+    fn access(
+        &mut self,
+        r: &mut Fields,
+        words: &mut [u32],
+        table: &mut Table,
+        b: ControlNode,
+        address: &[u32],
+        data: &[u32],
+    ) -> Result<(), Refusal> {
+        assert_access::assert_on(r, words, self.list, table, b, address, data)?;
+        Ok(())
+    }
+
+    ghost keeps_refl = { λ x. (refl, refl) };
+
+    ghost keeps_trans = { λ x y z p q. (q.0 ∙ p.0, q.1 ∙ p.1) };
+}
+
+// Checks of the list that they are lent.
 #[derive(Clone, Copy)]
-pub struct Made {
-    pub after: Fields,
-    pub row: u32,
-    pub many: usize,
+pub struct Checks<'a> {
+    pub list: &'a [u32],
+}
+
+impl<'a> Access for Checks<'a> {
+    ghost kind = { checking };
+
+    ghost lent = { λ s. s.list.now };
+
+    ghost keeps = { λ s t. t.list.now ≡ s.list.now };
+
+    fn list(&self) -> &[u32] {
+        self.list
+    }
+
+    fn access(
+        &mut self,
+        r: &mut Fields,
+        words: &mut [u32],
+        table: &mut Table,
+        b: ControlNode,
+        address: &[u32],
+        data: &[u32],
+    ) -> Result<(), Refusal> {
+        check_access::check_on(r, words, self.list, table, b, address, data)
+    }
+
+    ghost keeps_refl = { λ x. refl };
+
+    ghost keeps_trans = { λ x y z p q. q ∙ p };
+}
+
+// By what an access is refused, and how many were made before it.
+#[derive(Clone, Copy)]
+pub struct Stopped {
+    pub refusal: Refusal,
+    pub made: usize,
 }
 
 // The words of a predicate: an address, and data.
@@ -29,146 +126,44 @@ pub fn predicate_words(r: Fields) -> usize
     ranges::address_words(r.sizes) + ranges::cell_words(r.sizes)
 }
 
-fn wide(x: u32) -> usize
-    ensures { result ≡ x }
-{
-    x as usize
-}
-
-// Where the words of a predicate begin, where its data begin, and where they end.
-#[derive(Clone, Copy)]
-struct Place {
-    at: usize,
-    word: usize,
-    end: usize,
-}
-
-// Those of the predicate that triple i names.
-fn named_at(r: Fields, predicates: &[u32], triples: &[u32], i: usize) -> Place
+// The address and the data of the predicate that triple i names.
+fn named_at<'a>(
+    r: Fields,
+    predicates: &'a [u32],
+    triples: &[u32],
+    i: usize,
+) -> (&'a [u32], &'a [u32])
     requires { Named r predicates.now triples.now i }
-    ensures { NamedAt r predicates.now triples.now i result }
+    ensures address { result.0.now ≡ address_at r predicates.now (triple_at triples.now i).named }
+    ensures data { result.1.now ≡ word_at r predicates.now (triple_at triples.now i).named }
 {
     let size = predicate_words(r);
-    let at = wide(triples[3 * i + 2]) * size;
+    let at = (triples[3 * i + 2] as usize) * size;
     let word = at + ranges::address_words(r.sizes);
-    let end = at + size;
-    Place { at, word, end }
+    (&predicates[at..word], &predicates[word..at + size])
 }
 
-// The assert by triple i.
-fn assert_by(
-    r: Fields,
+// The accesses by the first so many triples. What the table holds afterwards is left open: it is its caller's, for one formula, and nothing is built after these.
+pub fn make<A: Access>(
+    by: &mut A,
+    r: &mut Fields,
     words: &mut [u32],
-    list: &mut [u32],
-    table: &mut Table,
-    predicates: &[u32],
-    triples: &[u32],
-    i: usize,
-) -> AssertDone
-    requires { Makes r words.old list.old table.old predicates.now triples.now i }
-    ensures { AnswersOn (access_by asserting r predicates.now (triple_at triples.now i)) (state_of r words.old list.old) (state_of result.after words.new list.new) (assert_answer result.row result.kept) table.new }
-{
-    let b = ControlNode(triples[3 * i + 1]);
-    let p = named_at(r, predicates, triples, i);
-    let at = p.at;
-    let word = p.word;
-    let end = p.end;
-    let address = &predicates[at..word];
-    let data = &predicates[word..end];
-    assert_access::assert_on(r, words, list, table, b, address, data)
-}
-
-// The check by triple i.
-fn check_by(
-    r: Fields,
-    words: &mut [u32],
-    list: &[u32],
-    table: &mut Table,
-    predicates: &[u32],
-    triples: &[u32],
-    i: usize,
-) -> Done
-    requires { Makes r words.old list.now table.old predicates.now triples.now i }
-    ensures { AnswersOn (access_by checking r predicates.now (triple_at triples.now i)) (state_of r words.old list.now) (state_of result.after words.new list.now) (unless_refused result.row accepted) table.new }
-{
-    let b = ControlNode(triples[3 * i + 1]);
-    let p = named_at(r, predicates, triples, i);
-    let at = p.at;
-    let word = p.word;
-    let end = p.end;
-    let address = &predicates[at..word];
-    let data = &predicates[word..end];
-    check_access::check_on(r, words, list, table, b, address, data)
-}
-
-// The asserts by the first so many triples. What the table holds afterwards is left open: it is its caller's, for one formula, and nothing is built after these.
-pub fn make_asserts(
-    r: Fields,
-    words: &mut [u32],
-    list: &mut [u32],
     table: &mut Table,
     predicates: &[u32],
     triples: &[u32],
     listed: usize,
-) -> Made
-    requires { MayMake r words.old list.old table.old predicates.now triples.now listed }
-    ensures { MadeAs asserting r words.old list.old predicates.now triples.now listed result.after words.new list.new result.row result.many }
+) -> Result<(), Stopped>
+    requires { MayMake r.old words.old (A.lent by.old) table.old predicates.now triples.now listed }
+    ensures same { A.keeps by.old by.new }
+    ensures made { MadeAs A.kind r.old words.old (A.lent by.old) predicates.now triples.now listed r.new words.new (A.lent by.new) result }
 {
-    let mut after = r;
-    let mut i: usize = 0;
-    while i < listed {
-        let d = assert_by(after, words, list, table, predicates, triples, i);
-        let left = d.after;
-        let row = d.row;
-        if row != 0 {
-            return Made {
-                after: left,
-                row,
-                many: i,
-            };
+    for made in 0..listed {
+        let b = ControlNode(triples[3 * made + 1]);
+        let (address, data) = named_at(*r, predicates, triples, made);
+        let x = by.access(r, words, table, b, address, data);
+        if let Err(refusal) = x {
+            return Err(Stopped { refusal, made });
         }
-        after = left;
-        i += 1;
     }
-    Made {
-        after,
-        row: 0,
-        many: listed,
-    }
-}
-
-// The checks by the first so many triples. The table is left open likewise.
-pub fn make_checks(
-    r: Fields,
-    words: &mut [u32],
-    list: &[u32],
-    table: &mut Table,
-    predicates: &[u32],
-    triples: &[u32],
-    listed: usize,
-) -> Made
-    requires { MayMake r words.old list.now table.old predicates.now triples.now listed }
-    ensures { MadeAs checking r words.old list.now predicates.now triples.now listed result.after words.new list.now result.row result.many }
-{
-    let mut after = r;
-    let mut i: usize = 0;
-    while i < listed {
-        let d = check_by(after, words, list, table, predicates, triples, i);
-        let left = d.after;
-        let row = d.row;
-        if row != 0 {
-            return Made {
-                after: left,
-                row,
-                many: i,
-            };
-        }
-        after = left;
-        i += 1;
-    }
-    Made {
-        after,
-        row: 0,
-        many: listed,
-    }
+    Ok(())
 }

@@ -1,20 +1,14 @@
 -- Three nodes that meet at a terminal: the test decides it, has its rule with no bound, and may go by notes. Rows 6 and 7 are two of its cases.
-use mathlib.Core.Path.{◌≡◌, refl, sym, ◌∙◌}
-use mathlib.Core.Bool.{Bool, true, false, ◌||◌, true≢false, false≢true}
-use mathlib.Core.Logic.{◌⊎◌, inl, inr, ⊎_elim}
-use mathlib.Core.List.{List}
-use Prim.Native.Nat.{ℕ, zero, suc, ◌+◌, ◌-◌, ◌/◌, ◌%◌, ◌<◌, ◌≤◌}
-use native.Mathlib.Omega.{arith}
+use Rattle.std.proofs.Common.{◌≡◌, refl, sym, ◌∙◌, Bool, true, false, ◌||◌, true≢false, ◌⊎◌, inl, inr, Option, None, Some, List, ℕ, zero, suc, ◌+◌, ◌-◌, ◌/◌, ◌%◌, ◌<◌, ◌≤◌, arith, eqb, get_or}
+use Rattle.std.proofs.Math.ListN.{replicate, get_or-replicate}
+use Rattle.std.proofs.lemmas.Bool.{false≢true}
+use mathlib.Core.Logic.{⊎_elim}
 use native.Mathlib.Decide.{dec_lt, ℕ_discrete}
-use lib.Dec.{eqb}
-use lib.ListN.{get_or, replicate, get_or-replicate}
 use borrow.Author.Tests.{eqb-true, eq-eqb, ne_eqb}
 use Rattle.nodes.specs.Words.{var_at}
 use Rattle.nodes.specs.Standard.{Standard}
 use Rattle.nodes.proofs.BoolLaws.{split, iff-same}
 use Rattle.diagrams.specs.declared.Parts.{Parts}
-use Rattle.meets.specs.declared.Verdict.{Verdict}
-use Rattle.meets.specs.declared.Verdict.TheVariants.{No, Yes, Open}
 use Rattle.diagrams.specs.Parts.{least_of, part_of, parts_of}
 use Rattle.diagrams.specs.Value.{value}
 use Rattle.diagrams.specs.Assignment.{bit_at, change, number_of}
@@ -58,11 +52,11 @@ other_never w φ t n lt e v =
 same_always : (w : List ℕ) (φ : ℕ → Bool) (t n : ℕ) → t < 2 → n ≡ t → value w φ n ≡ eqb t 1
 same_always w φ t n lt e = rw e (sym (value_end w φ t lt))
 
--- what a verdict says
-abbrev Says : List ℕ → ℕ → ℕ → ℕ → ℕ → Verdict → Type 0
-Says w t f g h No = Met w t f g h → ⊥
-Says w t f g h Yes = Met w t f g h
-Says w t f g h Open = f < 2 → g < 2 → h < 2 → ⊥
+-- what is told by the nodes themselves
+abbrev Says : List ℕ → ℕ → ℕ → ℕ → ℕ → Option Bool → Type 0
+Says w t f g h (Some false) = Met w t f g h → ⊥
+Says w t f g h (Some true) = Met w t f g h
+Says w t f g h None = f < 2 → g < 2 → h < 2 → ⊥
 
 judge_says : (w : List ℕ) (t f g h : ℕ) → t < 2 → Says w t f g h (judge_of t f g h)
 unfolding judge_of
@@ -145,11 +139,11 @@ module _ (w : List ℕ) (c t : ℕ) where
   -- a step decides, where what it calls does
   step_decides : (rec : ℕ → ℕ → ℕ → Bool) (f g h : ℕ) → Asks w c t f g h
       → ((f' g' h' : ℕ) → f' + g' + h' < f + g + h → Asks w c t f' g' h' → Decides (Met w t f' g' h') (rec f' g' h'))
-      → (v : Verdict) → Says w t f g h v → Decides (Met w t f g h) (meets_by rec v (parts_of w f g h))
+      → (v : Option Bool) → Says w t f g h v → Decides (Met w t f g h) (meets_by rec v (parts_of w f g h))
   unfolding meets_by
-  step_decides rec f g h A law No never = record { yes = λ e. absurd (false≢true e); no = λ _. never }
-  step_decides rec f g h A law Yes m = record { yes = λ _. m; no = λ e _. true≢false e }
-  step_decides rec f g h A law Open some =
+  step_decides rec f g h A law (Some false) never = record { yes = λ e. absurd (false≢true e); no = λ _. never }
+  step_decides rec f g h A law (Some true) m = record { yes = λ _. m; no = λ e _. true≢false e }
+  step_decides rec f g h A law None some =
       decides_or _ _ (law _ _ _ (some_fall A some false) (some_asks A some false)) (law _ _ _ (some_fall A some true) (some_asks A some true)) (met_up A some false) (met_up A some true) (met_sides A some)
 
   up_to_decides : (k f g h : ℕ) → f + g + h < k → Asks w c t f g h → Decides (Met w t f g h) (meets_up_to k w t f g h)
@@ -164,28 +158,14 @@ module _ (w : List ℕ) (c t : ℕ) where
   pub meets_rule : (f g h : ℕ) → Asks w c t f g h → meets w t f g h ≡ meets_by (meets w t) (judge_of t f g h) (parts_of w f g h)
   meets_rule f g h A = decided (meets_decides f g h A) (step_decides (meets w t) f g h A (λ f' g' h' l' A'. meets_decides f' g' h' A') (judge_of t f g h) (judge_says w t f g h A.terminal))
 
--- the answer, where the nodes have the verdict
+-- the answer, where the nodes tell it by themselves
 module _ {w : List ℕ} {c t f g h : ℕ} (A : Asks w c t f g h) where
-  pub meets_no : judge_of t f g h ≡ No → false ≡ meets w t f g h
+  pub meets_told : (b : Bool) → judge_of t f g h ≡ Some b → b ≡ meets w t f g h
   unfolding meets_by
-  meets_no e = rw (meets_rule w c t f g h A, e)
-
-  pub meets_yes : judge_of t f g h ≡ Yes → true ≡ meets w t f g h
-  unfolding meets_by
-  meets_yes e = rw (meets_rule w c t f g h A, e)
+  meets_told b e = rw (meets_rule w c t f g h A, e)
 
   pub asks-nodes : (t < 2) × (f < 16384) × (g < 16384) × (h < 16384)
   asks-nodes = let m = A.standard.most in omega arith
-
-  pub judge_settles : (v : Verdict) → v ≡ judge_of t f g h → Settles v (meets w t f g h)
-  judge_settles No e = sym (meets_no (sym e))
-  judge_settles Yes e = sym (meets_yes (sym e))
-  judge_settles Open e = tt
-
--- the verdict by the notes is that of the nodes, but for a no
-noted-judge : (n : List ℕ) (t f g h : ℕ) {v : Verdict} → v ≡ judge_noted n t f g h → (v ≡ No → ⊥) → judge_of t f g h ≡ v
-unfolding judge_noted
-noted-judge n t f g h e other = split (noted_in n f g h) (λ k. absurd (other (rw k at e))) (λ k. sym (rw k at e))
 
 -- three nodes, read out of their number
 note-nodes : {w : List ℕ} {c t f g h : ℕ} → Asks w c t f g h → (k : ℕ) → k ≡ key_of f g h → meets w t (k / 268435456) (k / 16384 % 16384) (k % 16384) ≡ meets w t f g h
@@ -202,12 +182,11 @@ module _ {w : List ℕ} {c t f g h : ℕ} {n : List ℕ} (A : Asks w c t f g h) 
   unfolding noted_in
   noted_no e = sym (N.at (slot_of f g h) (omega arith)) ∙ note-nodes A (get_or n (slot_of f g h) 0) (eqb-true _ _ e)
 
-  pub judge_no : {v : Verdict} → v ≡ judge_noted n t f g h → v ≡ No → false ≡ meets w t f g h
+  pub judged : (b : Bool) {v : Option Bool} → v ≡ judge_noted n t f g h → v ≡ Some b → b ≡ meets w t f g h
   unfolding judge_noted
-  judge_no e q = split (noted_in n f g h) noted_no (λ k. meets_no A (sym (rw k at e) ∙ q))
-
-  pub judge_yes : {v : Verdict} → v ≡ judge_noted n t f g h → v ≡ Yes → true ≡ meets w t f g h
-  judge_yes e q = meets_yes A (noted-judge n t f g h e (λ o. let z : ◌≡◌ {A = ℕ} 0 1 = cc in absurd (omega arith)) ∙ q)
+  judged b e q =
+      split (noted_in n f g h) (λ k. let no : Some b ≡ Some false = sym q ∙ (rw k at e) in let z : b ≡ false = cc in z ∙ noted_no k)
+      (λ k. meets_told A b (sym (rw k at e) ∙ q))
 
   -- the notes with three nodes more
   pub notes-more : false ≡ meets w t f g h → NotesHold w t (with_note n f g h)
@@ -229,16 +208,20 @@ notes-none w t = record { at = λ i lt. rw (get_or-replicate {A = ℕ} 32768 i (
 -- where the parts have the verdict
 pub record Down (w : List ℕ) (c t f g h : ℕ) (d : Parts) : Type 0 where
   pub asks : Asks w c t f g h
-  pub verdict : judge_of t f g h ≡ Open
+  pub unsettled : judge_of t f g h ≡ None
   pub parts : d ≡ parts_of w f g h
 
-pub down : {w : List ℕ} {c t f g h : ℕ} {d : Parts} (n : List ℕ) {v : Verdict} → Asks w c t f g h → v ≡ judge_noted n t f g h → v ≡ Open → d ≡ parts_of w f g h → Down w c t f g h d
-down {t = t} {f = f} {g = g} {h = h} n A e o ed =
-    record { asks = A; verdict = noted-judge n t f g h e (λ q. let z : ◌≡◌ {A = ℕ} 0 1 = cc in absurd (omega arith)) ∙ o; parts = ed }
+pub down_judge : {w : List ℕ} {c t f g h : ℕ} {d : Parts} {v : Option Bool} → Asks w c t f g h → v ≡ judge_of t f g h → v ≡ None → d ≡ parts_of w f g h → Down w c t f g h d
+down_judge A e o ed = record { asks = A; unsettled = sym e ∙ o; parts = ed }
+
+pub down : {w : List ℕ} {c t f g h : ℕ} {d : Parts} (n : List ℕ) {v : Option Bool} → Asks w c t f g h → v ≡ judge_noted n t f g h → v ≡ None → d ≡ parts_of w f g h → Down w c t f g h d
+unfolding judge_noted
+down {f = f} {g = g} {h = h} n A e o ed =
+    record { asks = A; unsettled = split (noted_in n f g h) (λ k. let z = sym o ∙ (rw k at e) in cc) (λ k. sym (rw k at e) ∙ o); parts = ed }
 
 module _ {w : List ℕ} {c t f g h : ℕ} {d : Parts} (D : Down w c t f g h d) where
   down-some : f < 2 → g < 2 → h < 2 → ⊥
-  down-some = rw D.verdict at (judge_says w t f g h D.asks.terminal)
+  down-some = rw D.unsettled at (judge_says w t f g h D.asks.terminal)
 
   pub down_low : (d.f0 + d.g0 + d.h0 < f + g + h) × Asks w c t d.f0 d.g0 d.h0
   down_low = rw D.parts (some_fall D.asks down-some false, some_asks D.asks down-some false)
@@ -248,7 +231,7 @@ module _ {w : List ℕ} {c t f g h : ℕ} {d : Parts} (D : Down w c t f g h d) w
 
   down_rule : meets w t f g h ≡ (meets w t d.f0 d.g0 d.h0 || meets w t d.f1 d.g1 d.h1)
   unfolding meets_by
-  down_rule = rw (D.parts, meets_rule w c t f g h D.asks, D.verdict)
+  down_rule = rw (D.parts, meets_rule w c t f g h D.asks, D.unsettled)
 
   -- the answer, by that of the low parts and that of the high parts
   pub meets_low : {x : Bool} → x ≡ meets w t d.f0 d.g0 d.h0 → x ≡ true → true ≡ meets w t f g h
@@ -257,24 +240,10 @@ module _ {w : List ℕ} {c t f g h : ℕ} {d : Parts} (D : Down w c t f g h d) w
   pub meets-high : {x y b : Bool} → x ≡ meets w t d.f0 d.g0 d.h0 → x ≡ false → y ≡ meets w t d.f1 d.g1 d.h1 → y ≡ b → b ≡ meets w t f g h
   meets-high ex x ey y = rw (down_rule, ← ex, x) (sym y ∙ ey)
 
-  -- the same of verdicts
-  pub low_settles : {x : Verdict} → Settles x (meets w t d.f0 d.g0 d.h0) → x ≡ Yes → Settles x (meets w t f g h)
-  low_settles s e = rw e (sym (meets_low (sym (rw e at s)) refl))
-
-  pub high_settles : {x : Verdict} (y : Verdict) → Settles x (meets w t d.f0 d.g0 d.h0) → x ≡ No → Settles y (meets w t d.f1 d.g1 d.h1) → Settles y (meets w t f g h)
-  high_settles No s e q = sym (meets-high (sym (rw e at s)) refl (sym q) refl)
-  high_settles Yes s e q = sym (meets-high (sym (rw e at s)) refl (sym q) refl)
-  high_settles Open s e q = tt
-
--- the answer of a verdict that is not open
-pub settles_no : (b : Bool) {x : Verdict} → Settles x b → x ≡ No → false ≡ b
-settles_no b s e = sym (rw e at s)
-
-pub settles_yes : (b : Bool) {x : Verdict} → Settles x b → x ≡ Yes → true ≡ b
-settles_yes b s e = sym (rw e at s)
-
-pub open_settles : (b : Bool) {x : Verdict} → x ≡ Open → Settles x b
-open_settles b e = rw e tt
+  -- what is told of the high parts is told of the three nodes, where the low parts do not meet
+  pub high_settles : {x : Bool} → meets w t d.f0 d.g0 d.h0 ≡ x → x ≡ false → (y : Option Bool) → Settles y (meets w t d.f1 d.g1 d.h1) → Settles y (meets w t f g h)
+  high_settles ex e (Some b) q = sym (meets-high (sym ex) e (sym q) refl)
+  high_settles ex e None q = tt
 
 pub neither_decides : {w : List ℕ} {c : ℕ} → Standard w c → (h l : ℕ) → h < c → l < c → Decides (SomeNeither w h l) (neither w h l)
 unfolding neither

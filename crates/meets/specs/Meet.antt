@@ -1,41 +1,37 @@
 -- 01, rows 6 and 7: whether some assignment makes nodes false together, or true together, found without making nodes.
-use Rattle.std.specs.Prelude.{◌≡◌, Bool, true, false, cond, ◌&&◌, ◌||◌, List, ℕ, zero, suc, ◌+◌, ◌-◌, ◌/◌, ◌%◌, ◌^◌, ◌<◌, eqb, get_or, set}
+use Rattle.std.specs.Prelude.{◌≡◌, Bool, true, false, cond, ◌&&◌, ◌||◌, Option, None, Some, List, ℕ, zero, suc, ◌+◌, ◌-◌, ◌/◌, ◌%◌, ◌^◌, ◌<◌, eqb, get_or, set}
 use Rattle.nodes.specs.Standard.{Standard}
 use Rattle.diagrams.specs.declared.Parts.{Parts}
-use Rattle.meets.specs.declared.Verdict.{Verdict}
-use Rattle.meets.specs.declared.Verdict.TheVariants.{No, Yes, Open}
 use Rattle.diagrams.specs.Parts.{parts_of}
 use Rattle.diagrams.specs.Value.{value}
 use Rattle.diagrams.specs.Assignment.{bit_at}
 use Rattle.diagrams.specs.Keys.{key_of, slot_of}
 
--- whether f, g and h meet at the terminal t: no, if one of them is the other terminal; yes, if all three are t; else as their parts do
-unfoldable pub judge_of : ℕ → ℕ → ℕ → ℕ → Verdict
+-- whether f, g and h meet at the terminal t: no, if one of them is the other terminal; yes, if all three are t; else, where this is none, as their parts do
+unfoldable pub judge_of : ℕ → ℕ → ℕ → ℕ → Option Bool
 judge_of t f g h =
-    cond (eqb f (1 - t) || eqb g (1 - t) || eqb h (1 - t)) No
-    (cond (eqb f t && eqb g t && eqb h t) Yes
-    Open)
+    cond (eqb f (1 - t) || eqb g (1 - t) || eqb h (1 - t)) (Some false)
+    (cond (eqb f t && eqb g t && eqb h t) (Some true)
+    None)
 
 -- the low parts meet, or else the high parts do, by a function for the parts
-unfoldable pub meets_by : (ℕ → ℕ → ℕ → Bool) → Verdict → Parts → Bool
-meets_by rec No d = false
-meets_by rec Yes d = true
-meets_by rec Open d = rec d.f0 d.g0 d.h0 || rec d.f1 d.g1 d.h1
+unfoldable pub meets_by : (ℕ → ℕ → ℕ → Bool) → Option Bool → Parts → Bool
+meets_by rec (Some b) d = b
+meets_by rec None d = rec d.f0 d.g0 d.h0 || rec d.f1 d.g1 d.h1
 
 -- that in so many steps at most
 unfoldable pub meets_up_to : ℕ → List ℕ → ℕ → ℕ → ℕ → ℕ → Bool
 meets_up_to zero w t f g h = false
 meets_up_to (suc k) w t f g h = meets_by (meets_up_to k w t) (judge_of t f g h) (parts_of w f g h)
 
--- some assignment takes f, g and h to the terminal t. Each step goes to a child of one of the three at least, so these are enough: the law `meets-rule` is this with no bound
+-- some assignment takes f, g and h to the terminal t. Each step goes to a child of one of the three at least, so these are enough: the law `meets_rule` is this with no bound
 unfoldable pub meets : List ℕ → ℕ → ℕ → ℕ → ℕ → Bool
 meets w t f g h = meets_up_to (suc (f + g + h)) w t f g h
 
--- a verdict that is not open is the answer
-abbrev pub Settles : Verdict → Bool → Type 0
-Settles No b = b ≡ false
-Settles Yes b = b ≡ true
-Settles Open b = Unit {0}
+-- what is told, if anything is, is the answer
+abbrev pub Settles : Option Bool → Bool → Type 0
+Settles (Some x) b = b ≡ x
+Settles None b = Unit {0}
 
 -- what the test asks: a store in standard form, a terminal, and three nodes
 pub record Asks (w : List ℕ) (c t f g h : ℕ) : Type 0 where
@@ -73,8 +69,8 @@ abbrev pub with_note : List ℕ → ℕ → ℕ → ℕ → List ℕ
 with_note n f g h = set n (slot_of f g h) (key_of f g h)
 
 -- no, if the notes have the three nodes; else by the nodes themselves
-unfoldable pub judge_noted : List ℕ → ℕ → ℕ → ℕ → ℕ → Verdict
-judge_noted n t f g h = cond (noted_in n f g h) No (judge_of t f g h)
+unfoldable pub judge_noted : List ℕ → ℕ → ℕ → ℕ → ℕ → Option Bool
+judge_noted n t f g h = cond (noted_in n f g h) (Some false) (judge_of t f g h)
 
 -- each number of the notes is three nodes that do not meet
 pub record NotesHold (w : List ℕ) (t : ℕ) (n : List ℕ) : Type 0 where

@@ -4,22 +4,17 @@
 ghost use Rattle.std.specs.Prelude.{◌≡◌, length};
 ghost use Rattle.conditions.specs.Contract.{Sound};
 ghost use Rattle.model.specs.Record.{address_words, cell_words, data_words};
-ghost use Rattle.model.specs.Step.{accepted, node, valued, begin, write, assert, check, evaluate, variable, ite, fresh};
+ghost use Rattle.model.specs.Step.{begin, write, assert, check, evaluate, variable, ite, fresh};
 ghost use Rattle.model.specs.Frames.{Valid, PortsValid};
-ghost use Rattle.rows.specs.Contract.{unless_refused};
-ghost use Rattle.node_calls.specs.Contract.{numbered, freshed};
-ghost use Rattle.write_access.specs.Contract as write_access;
-ghost use Rattle.assert_access.specs.Contract as assert_access;
-ghost use Rattle.memory.specs.Contract.{state_of, memory_of, fresh_answer, write_answer, assert_answer, check_answer, node_answer, value_answer, Says, SaysRead, AnswersAnyPorts, AnswersOnAnyPorts, AnswersNoList, ReadAnswers, ReadAnswersOn};
+ghost use Rattle.node_calls.specs.Contract.{freshed};
+ghost use Rattle.memory.specs.Contract.{state_of, memory_of, fresh_answer, write_answer, assert_answer, check_answer, node_answer, value_answer, AnswersAnyPorts, AnswersOnAnyPorts, AnswersNoList, ReadAnswers, ReadAnswersOn};
 
-use assert_access::AssertDone;
+use assert_access::Asserted;
 use building::ControlNode;
 use conditions::Table;
 use model::Fields;
-use node_calls::{NodeDone, ValueDone};
-use rows::Done;
+use refusals::Refusal;
 use semantics::Sizes;
-use write_access::WriteDone;
 
 // The record of a memory, on which the calls are methods.
 #[derive(Clone, Copy)]
@@ -27,280 +22,78 @@ pub struct Record {
     pub fields: Fields,
 }
 
+// The record after a call, and the call's answer: 01 wants the calls as methods by value.
 #[derive(Clone, Copy)]
-pub enum FreshAnswer {
-    Accepted,
-    Refused(u32),
-}
-
-// A write is entered, at a place counted from 0, or idle.
-#[derive(Clone, Copy)]
-pub enum WriteAnswer {
-    Entered(u32),
-    Idle,
-    Refused(u32),
-}
-
-#[derive(Clone, Copy)]
-pub enum ReadAnswer {
-    Filled,
-    Refused(u32),
-}
-
-#[derive(Clone, Copy)]
-pub enum AssertAnswer {
-    Entered,
-    Kept,
-    Refused(u32),
-}
-
-#[derive(Clone, Copy)]
-pub enum CheckAnswer {
-    Accepted,
-    Refused(u32),
-}
-
-#[derive(Clone, Copy)]
-pub enum NodeAnswer {
-    Node(u32),
-    Refused(u32),
-}
-
-#[derive(Clone, Copy)]
-pub enum ValueAnswer {
-    Value(bool),
-    Refused(u32),
-}
-
-// The record after a call, and the call's answer.
-#[derive(Clone, Copy)]
-pub struct FreshResult {
+pub struct Called<A> {
     pub after: Record,
-    pub answer: FreshAnswer,
-}
-
-#[derive(Clone, Copy)]
-pub struct WriteResult {
-    pub after: Record,
-    pub answer: WriteAnswer,
-}
-
-#[derive(Clone, Copy)]
-pub struct ReadResult {
-    pub after: Record,
-    pub answer: ReadAnswer,
-}
-
-#[derive(Clone, Copy)]
-pub struct AssertResult {
-    pub after: Record,
-    pub answer: AssertAnswer,
-}
-
-#[derive(Clone, Copy)]
-pub struct CheckResult {
-    pub after: Record,
-    pub answer: CheckAnswer,
-}
-
-#[derive(Clone, Copy)]
-pub struct NodeResult {
-    pub after: Record,
-    pub answer: NodeAnswer,
-}
-
-#[derive(Clone, Copy)]
-pub struct ValueResult {
-    pub after: Record,
-    pub answer: ValueAnswer,
-}
-
-// What each call answers by its number, and where that is 0.
-fn fresh_result(d: Done) -> FreshResult
-    ensures { Says result.after d.after (fresh_answer result.answer) (numbered d.row) }
-{
-    let fields = d.after;
-    let after = Record { fields };
-    let k = d.row;
-    if k != 0 {
-        return FreshResult {
-            after,
-            answer: FreshAnswer::Refused(k),
-        };
-    }
-    FreshResult {
-        after,
-        answer: FreshAnswer::Accepted,
-    }
-}
-
-fn write_result(d: WriteDone, at: u32) -> WriteResult
-    ensures { Says result.after d.after (write_answer result.answer) (write_access.write_answer d.row d.idle at) }
-{
-    let fields = d.after;
-    let after = Record { fields };
-    let k = d.row;
-    if k != 0 {
-        return WriteResult {
-            after,
-            answer: WriteAnswer::Refused(k),
-        };
-    }
-    if d.idle {
-        return WriteResult {
-            after,
-            answer: WriteAnswer::Idle,
-        };
-    }
-    WriteResult {
-        after,
-        answer: WriteAnswer::Entered(at),
-    }
-}
-
-fn read_result(d: Done) -> ReadResult
-    ensures { SaysRead result.after d.after result.answer d.row }
-{
-    let fields = d.after;
-    let after = Record { fields };
-    let k = d.row;
-    if k != 0 {
-        return ReadResult {
-            after,
-            answer: ReadAnswer::Refused(k),
-        };
-    }
-    ReadResult {
-        after,
-        answer: ReadAnswer::Filled,
-    }
-}
-
-fn check_result(d: Done) -> CheckResult
-    ensures { Says result.after d.after (check_answer result.answer) (unless_refused d.row accepted) }
-{
-    let fields = d.after;
-    let after = Record { fields };
-    let k = d.row;
-    if k != 0 {
-        return CheckResult {
-            after,
-            answer: CheckAnswer::Refused(k),
-        };
-    }
-    CheckResult {
-        after,
-        answer: CheckAnswer::Accepted,
-    }
-}
-
-fn node_result(d: NodeDone) -> NodeResult
-    ensures { Says result.after d.after (node_answer result.answer) (unless_refused d.row (node d.node)) }
-{
-    let fields = d.after;
-    let after = Record { fields };
-    let k = d.row;
-    if k != 0 {
-        return NodeResult {
-            after,
-            answer: NodeAnswer::Refused(k),
-        };
-    }
-    NodeResult {
-        after,
-        answer: NodeAnswer::Node(d.node),
-    }
-}
-
-fn assert_result(d: AssertDone) -> AssertResult
-    ensures { Says result.after d.after (assert_answer result.answer) (assert_access.assert_answer d.row d.kept) }
-{
-    let fields = d.after;
-    let after = Record { fields };
-    let k = d.row;
-    if k != 0 {
-        return AssertResult {
-            after,
-            answer: AssertAnswer::Refused(k),
-        };
-    }
-    if d.kept {
-        return AssertResult {
-            after,
-            answer: AssertAnswer::Kept,
-        };
-    }
-    AssertResult {
-        after,
-        answer: AssertAnswer::Entered,
-    }
-}
-
-fn value_result(r: Record, d: ValueDone) -> ValueResult
-    ensures { Says result.after r.fields (value_answer result.answer) (unless_refused d.row (valued d.value)) }
-{
-    let k = d.row;
-    if k != 0 {
-        return ValueResult {
-            after: r,
-            answer: ValueAnswer::Refused(k),
-        };
-    }
-    ValueResult {
-        after: r,
-        answer: ValueAnswer::Value(d.value),
-    }
+    pub answer: Result<A, Refusal>,
 }
 
 impl Record {
     // Fresh: a memory with no entries and both conditions 1, over node words that hold the two terminals, and ports that hold X.
-    pub fn fresh(self, words: &mut [u32], ports: &mut [u32; 128], z: Sizes) -> FreshResult
+    pub fn fresh(self, words: &mut [u32], ports: &mut [u32; 128], z: Sizes) -> Called<()>
         ensures { freshed (fresh self.fields z words.old ports.old) ≡ (fresh_answer result.answer, result.after.fields, words.new, ports.new) }
     {
-        fresh_result(node_calls::fresh(self.fields, words, ports, z))
+        let mut fields = self.fields;
+        let answer = node_calls::fresh(&mut fields, words, ports, z);
+        Called {
+            after: Record { fields },
+            answer,
+        }
     }
 
     // The value of node f under the 64-bit assignment a.
-    pub fn evaluate(self, words: &[u32], f: u32, a: u64) -> ValueResult
+    pub fn evaluate(self, words: &[u32], f: u32, a: u64) -> Called<bool>
         ensures { AnswersNoList (evaluate f a) self words.now result.after words.now (value_answer result.answer) }
     {
-        value_result(self, node_calls::evaluate(self.fields, words, f, a))
+        let answer = node_calls::evaluate(self.fields, words, f, a);
+        Called {
+            after: self,
+            answer,
+        }
     }
 
     // The node of variable v.
-    pub fn variable(self, words: &mut [u32], v: u32) -> NodeResult
+    pub fn variable(self, words: &mut [u32], v: u32) -> Called<u32>
         ensures { AnswersNoList (variable v) self words.old result.after words.new (node_answer result.answer) }
     {
-        node_result(node_calls::variable(self.fields, words, v))
+        let mut fields = self.fields;
+        let answer = node_calls::variable(&mut fields, words, v);
+        Called {
+            after: Record { fields },
+            answer,
+        }
     }
 
     // The node of Ite(f, g, h).
-    pub fn ite(self, words: &mut [u32], f: u32, g: u32, h: u32) -> NodeResult
+    pub fn ite(self, words: &mut [u32], f: u32, g: u32, h: u32) -> Called<u32>
         ensures { AnswersNoList (ite f g h) self words.old result.after words.new (node_answer result.answer) }
     {
-        node_result(node_calls::ite(self.fields, words, f, g, h))
+        let mut fields = self.fields;
+        let answer = node_calls::ite(&mut fields, words, f, g, h);
+        Called {
+            after: Record { fields },
+            answer,
+        }
     }
 
-    // A write to a valid memory: rows 5 and 6; then it is idle, or rows 9 and 8, and the entry.
+    // A write to a valid memory: rows 5 and 6; then it is idle, or rows 9 and 8, and the entry. It answers its entry's place, or none where it is idle.
     pub fn write_on(
-        self,
+        &mut self,
         words: &mut [u32],
         list: &mut [u32],
         table: &mut Table,
         enable: &[u32],
         address: &[u32],
         data: &[u32],
-    ) -> WriteResult
-        requires { Valid (memory_of self words.old list.old) × Sound words.old table.old (begin self.fields) × (length enable.now ≡ 2) × (length address.now ≡ address_words self.fields) × (length «data».now ≡ data_words self.fields) }
-        ensures { AnswersOnAnyPorts (write enable.now address.now «data».now) self words.old list.old result.after words.new list.new (write_answer result.answer) table.new }
+    ) -> Result<Option<u32>, Refusal>
+        requires { Valid (memory_of self.old words.old list.old) × Sound words.old table.old (begin self.old.fields) × (length enable.now ≡ 2) × (length address.now ≡ address_words self.old.fields) × (length «data».now ≡ data_words self.old.fields) }
+        ensures { AnswersOnAnyPorts (write enable.now address.now «data».now) self.old words.old list.old self.new words.new list.new (write_answer result) table.new }
     {
-        write_result(
-            write_access::write_on(self.fields, words, list, table, enable, address, data),
-            self.fields.entries,
-        )
+        write_access::write_on(&mut self.fields, words, list, table, enable, address, data)
     }
 
-    // Write(c, a, d).
+    // Write(c, a, d). It answers its entry's place, or none where it is idle.
     pub fn write(
         self,
         words: &mut [u32],
@@ -308,18 +101,20 @@ impl Record {
         enable: &[u32],
         address: &[u32],
         data: &[u32],
-    ) -> WriteResult
+    ) -> Called<Option<u32>>
         ensures { AnswersAnyPorts (write enable.now address.now «data».now) self words.old list.old result.after words.new list.new (write_answer result.answer) }
     {
-        write_result(
-            write_access::write(self.fields, words, list, enable, address, data),
-            self.fields.entries,
-        )
+        let mut fields = self.fields;
+        let answer = write_access::write(&mut fields, words, list, enable, address, data);
+        Called {
+            after: Record { fields },
+            answer,
+        }
     }
 
     // A read of a valid memory with valid ports: rows 14 and 5 to 9, and the word, which its port then holds.
     pub fn read_on(
-        self,
+        &mut self,
         words: &mut [u32],
         list: &[u32],
         table: &mut Table,
@@ -328,12 +123,12 @@ impl Record {
         enable: &[u32],
         address: &[u32],
         answer: &mut [u32],
-    ) -> ReadResult
-        requires { Valid (state_of self words.old list.now ports.old) × PortsValid (state_of self words.old list.now ports.old) × Sound words.old table.old (begin self.fields) × (length enable.now ≡ 2) × (length address.now ≡ address_words self.fields) × (length answer.old ≡ data_words self.fields) }
-        ensures { ReadAnswersOn self words.old list.now ports.old port enable.now address.now answer.old result.after words.new ports.new answer.new result.answer table.new }
+    ) -> Result<(), Refusal>
+        requires { Valid (state_of self.old words.old list.now ports.old) × PortsValid (state_of self.old words.old list.now ports.old) × Sound words.old table.old (begin self.old.fields) × (length enable.now ≡ 2) × (length address.now ≡ address_words self.old.fields) × (length answer.old ≡ data_words self.old.fields) }
+        ensures { ReadAnswersOn self.old words.old list.now ports.old port enable.now address.now answer.old self.new words.new ports.new answer.new result table.new }
     {
-        read_result(read_access::read_on(
-            self.fields,
+        read_access::read_on(
+            &mut self.fields,
             words,
             list,
             table,
@@ -342,7 +137,7 @@ impl Record {
             enable,
             address,
             answer,
-        ))
+        )
     }
 
     // Read(e, a), at a port.
@@ -355,11 +150,12 @@ impl Record {
         enable: &[u32],
         address: &[u32],
         answer: &mut [u32],
-    ) -> ReadResult
+    ) -> Called<()>
         ensures { ReadAnswers self words.old list.now ports.old port enable.now address.now answer.old result.after words.new ports.new answer.new result.answer }
     {
-        read_result(read_access::read(
-            self.fields,
+        let mut fields = self.fields;
+        let answer = read_access::read(
+            &mut fields,
             words,
             list,
             ports,
@@ -367,23 +163,27 @@ impl Record {
             enable,
             address,
             answer,
-        ))
+        );
+        Called {
+            after: Record { fields },
+            answer,
+        }
     }
 
     // A check of a valid memory: rows 5 to 9, and the check condition.
     pub fn check_on(
-        self,
+        &mut self,
         words: &mut [u32],
         list: &[u32],
         table: &mut Table,
         b: ControlNode,
         address: &[u32],
         data: &[u32],
-    ) -> CheckResult
-        requires { Valid (memory_of self words.old list.now) × Sound words.old table.old (begin self.fields) × (length address.now ≡ address_words self.fields) × (length «data».now ≡ cell_words self.fields) }
-        ensures { AnswersOnAnyPorts (check b.0 address.now «data».now) self words.old list.now result.after words.new list.now (check_answer result.answer) table.new }
+    ) -> Result<(), Refusal>
+        requires { Valid (memory_of self.old words.old list.now) × Sound words.old table.old (begin self.old.fields) × (length address.now ≡ address_words self.old.fields) × (length «data».now ≡ cell_words self.old.fields) }
+        ensures { AnswersOnAnyPorts (check b.0 address.now «data».now) self.old words.old list.now self.new words.new list.now (check_answer result) table.new }
     {
-        check_result(check_access::check_on(self.fields, words, list, table, b, address, data))
+        check_access::check_on(&mut self.fields, words, list, table, b, address, data)
     }
 
     // Check(b, a, d).
@@ -394,26 +194,31 @@ impl Record {
         b: ControlNode,
         address: &[u32],
         data: &[u32],
-    ) -> CheckResult
+    ) -> Called<()>
         ensures { AnswersAnyPorts (check b.0 address.now «data».now) self words.old list.now result.after words.new list.now (check_answer result.answer) }
     {
-        check_result(check_access::check(self.fields, words, list, b, address, data))
+        let mut fields = self.fields;
+        let answer = check_access::check(&mut fields, words, list, b, address, data);
+        Called {
+            after: Record { fields },
+            answer,
+        }
     }
 
     // An assert to a valid memory: rows 5 to 9, the assert condition, and the entry where it is not kept.
     pub fn assert_on(
-        self,
+        &mut self,
         words: &mut [u32],
         list: &mut [u32],
         table: &mut Table,
         b: ControlNode,
         address: &[u32],
         data: &[u32],
-    ) -> AssertResult
-        requires { Valid (memory_of self words.old list.old) × Sound words.old table.old (begin self.fields) × (length address.now ≡ address_words self.fields) × (length «data».now ≡ cell_words self.fields) }
-        ensures { AnswersOnAnyPorts (assert b.0 address.now «data».now) self words.old list.old result.after words.new list.new (assert_answer result.answer) table.new }
+    ) -> Result<Asserted, Refusal>
+        requires { Valid (memory_of self.old words.old list.old) × Sound words.old table.old (begin self.old.fields) × (length address.now ≡ address_words self.old.fields) × (length «data».now ≡ cell_words self.old.fields) }
+        ensures { AnswersOnAnyPorts (assert b.0 address.now «data».now) self.old words.old list.old self.new words.new list.new (assert_answer result) table.new }
     {
-        assert_result(assert_access::assert_on(self.fields, words, list, table, b, address, data))
+        assert_access::assert_on(&mut self.fields, words, list, table, b, address, data)
     }
 
     // Assert(b, a, d).
@@ -424,9 +229,14 @@ impl Record {
         b: ControlNode,
         address: &[u32],
         data: &[u32],
-    ) -> AssertResult
+    ) -> Called<Asserted>
         ensures { AnswersAnyPorts (assert b.0 address.now «data».now) self words.old list.old result.after words.new list.new (assert_answer result.answer) }
     {
-        assert_result(assert_access::assert(self.fields, words, list, b, address, data))
+        let mut fields = self.fields;
+        let answer = assert_access::assert(&mut fields, words, list, b, address, data);
+        Called {
+            after: Record { fields },
+            answer,
+        }
     }
 }

@@ -1,1 +1,1 @@
-pub mod HalfLaws
+pub mod StepLaws

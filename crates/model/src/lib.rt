@@ -24,3 +24,10 @@ pub struct AddressNode(pub u32);
 // A node number of the data domain.
 #[derive(Clone, Copy)]
 pub struct DataNode(pub u32);
+
+// The two halves of a value that may be X, each a node of the same domain.
+#[derive(Clone, Copy)]
+pub struct Pair<N> {
+    pub h: N,
+    pub l: N,
+}

@@ -4,7 +4,6 @@ use mathlib.Core.Bool.{true}
 use mathlib.Core.List.{List}
 use Prim.Native.Nat.{ℕ, zero, suc, ◌-◌, ◌<◌, ◌≤◌}
 use native.Mathlib.Omega.{arith}
-use native.Mathlib.Numerals.{sub-one}
 use lib.ListN.{get_or}
 use borrow.Author.Tests.{eq-eqb, ne_eqb, lt-ltb, le-ltb, eqb-true}
 use Rattle.nodes.specs.Words.{var_at, low_at, high_at}
@@ -32,10 +31,9 @@ module _ (w next : List ℕ) (c x : ℕ) where
   walk_hit zero n p h e = absurd (omega arith)
   walk_hit (suc i) n p h e = rw (lt-ltb n c h, eq-eqb (number_of w n) x e)
 
-  pub walk_step : (i n : ℕ) → 0 < i → n < c → (number_of w n ≡ x → ⊥) → walk w next c x i n ≡ walk w next c x (i - 1) (get_or next n 0)
+  pub walk_step : (i j n : ℕ) → i ≡ suc j → n < c → (number_of w n ≡ x → ⊥) → walk w next c x i n ≡ walk w next c x j (get_or next n 0)
   unfolding walk
-  walk_step zero n p h e = absurd (omega arith)
-  walk_step (suc i) n p h e = rw (lt-ltb n c h, ne_eqb (number_of w n) x e, sub-one (suc i))
+  walk_step i j n p h e = rw (p, lt-ltb n c h, ne_eqb (number_of w n) x e)
 
 -- the same words have the same number
 number_same : (w : List ℕ) (m n : ℕ) → Has w (var_at w n) (low_at w n) (high_at w n) m → number_of w m ≡ number_of w n

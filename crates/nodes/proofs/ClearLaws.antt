@@ -1,30 +1,39 @@
 -- What clearing leaves, and that it undoes building.
-use mathlib.Core.Path.{◌≡◌, refl, sym, ◌∙◌}
-use mathlib.Core.List.{List}
-use Prim.Native.Nat.{ℕ, zero, suc, ◌+◌, ◌*◌, ◌-◌, ◌<◌, ◌≤◌}
-use native.Mathlib.Omega.{arith}
-use native.Mathlib.Numerals.{add-one}
+use Rattle.std.proofs.Common.{◌≡◌, refl, sym, ◌∙◌, List, ℕ, zero, suc, ◌+◌, ◌*◌, ◌-◌, ◌<◌, ◌≤◌, min, arith, length, get_or, set, length-set, append_assoc}
+use Rattle.std.proofs.Math.ListN.{replicate, length-replicate}
+use Rattle.std.proofs.Math.Seq.{get_or-set_same, get_or-set_other, ext_get_or, sets, sets-eq, drop-drop}
 use native.Mathlib.Decide.{dec_lt, ℕ_discrete}
-use lib.ListN.{length, get_or, set, length-set}
-use lib.Seq.{get_or-set_same, get_or-set_other, ext_get_or}
+use borrow.Rule.Slice.PartMut.{put_mid, mid_of, mid_len}
 use Rattle.nodes.specs.Words.{capacity_of}
 use Rattle.nodes.specs.Standard.{Standard}
-use Rattle.nodes.specs.Extends.{Agree, Extends}
+use Rattle.nodes.specs.Extends.{Extends}
 use Rattle.nodes.specs.Clear.{zeroed, clear_of}
 
-pub zeroed_end : (w : List ℕ) (k n : ℕ) → n ≡ 0 → zeroed w k n ≡ w
+-- zeros written one after the other, and as one run
+zeroed_sets : (n : ℕ) (w : List ℕ) (k : ℕ) → zeroed w k n ≡ sets w k (replicate n 0)
 unfolding zeroed
-zeroed_end w k n e = rw e
+zeroed_sets zero w k = refl
+zeroed_sets (suc n) w k = zeroed_sets n (set w k 0) (suc k)
 
-pub zeroed_step : (w : List ℕ) (k e : ℕ) → k < e → zeroed (set w k 0) (k + 1) (e - (k + 1)) ≡ zeroed w k (e - k)
-unfolding zeroed
-zeroed_step w k e h =
-    let p : e - k ≡ suc (e - (k + 1)) = omega arith in
-    rw (p, add-one k)
+filled-zeroed : (w l : List ℕ) (k n : ℕ) → k + n ≤ length w → l ≡ replicate n 0 → put_mid k n w l ≡ zeroed w k n
+filled-zeroed w l k n h f =
+    let z : List ℕ = replicate n 0 in
+    let m : length z ≡ n = length-replicate n 0 in
+    rw (zeroed_sets n w k, sets-eq z w k (omega arith), m, f, append_assoc, drop-drop n k w) refl
 
-pub clear_is : (w : List ℕ) (c : ℕ) {e : ℕ} → e ≡ capacity_of w * 3 → zeroed w (c * 3) (e - c * 3) ≡ clear_of w c
-unfolding clear_of
-clear_is w c p = rw p
+-- The part from k to e filled with 0: the words from c * 3 on are cleared, and none where c * 3 is past e.
+pub filled_clear : (w : List ℕ) (c : ℕ) {k e : ℕ} {l : List ℕ} → e ≡ capacity_of w * 3 → k ≡ min e (c * 3) → l ≡ replicate (length (mid_of k (e - k) w)) 0 → put_mid k (e - k) w l ≡ clear_of w c
+unfolding clear_of zeroed
+filled_clear w c {k} {e} {l} p q f = filled-zeroed w l k (e - k) (omega arith) (rw (mid_len k e w (omega arith)) at f) ∙ go (dec_lt e (c * 3))
+  where
+    go : Dec (e < c * 3) → zeroed w k (e - k) ≡ zeroed w (c * 3) (capacity_of w * 3 - c * 3)
+    go (yes h) =
+        let x : e - k ≡ 0 = omega arith in
+        let y : capacity_of w * 3 - c * 3 ≡ 0 = omega arith in
+        rw (x, y)
+    go (no h) =
+        let x : k ≡ c * 3 = omega arith in
+        rw (x, p)
 
 zeroed-length : (w : List ℕ) (k n : ℕ) → length (zeroed w k n) ≡ length w
 unfolding zeroed

@@ -1,10 +1,9 @@
 -- Growth goes on from itself, and what it leaves of a node.
-use mathlib.Core.Path.{◌≡◌, refl, sym, ◌∙◌}
+use mathlib.Core.Path.{◌≡◌, refl, ◌∙◌}
 use mathlib.Core.Bool.{Bool, true, false}
 use mathlib.Core.List.{List}
-use Prim.Native.Nat.{ℕ, ◌+◌, ◌*◌, ◌<◌, ◌≤◌}
+use Prim.Native.Nat.{ℕ, ◌+◌, ◌*◌, ◌<◌}
 use native.Mathlib.Omega.{arith}
-use lib.ListN.{length}
 use Rattle.nodes.specs.Words.{var_at, low_at, high_at, child_at, with_node}
 use Rattle.nodes.specs.Extends.{Agree, Extends}
 use Rattle.nodes.proofs.WordsLaws.{node-length, node_other}

@@ -1,6 +1,6 @@
 -- Stores in standard form: the two terminals alone, one node more, and any words that agree on the nodes.
-use mathlib.Core.Path.{◌≡◌, refl, sym, ap, ◌∙◌}
-use mathlib.Core.Bool.{Bool, true, false, true≢false}
+use mathlib.Core.Path.{◌≡◌, sym, ◌∙◌}
+use mathlib.Core.Bool.{true, false, true≢false}
 use mathlib.Core.List.{List}
 use Prim.Native.Nat.{ℕ, zero, suc, ◌+◌, ◌*◌, ◌<◌, ◌≤◌}
 use native.Mathlib.Omega.{arith}
@@ -8,7 +8,7 @@ use native.Mathlib.Decide.{dec_lt}
 use lib.ListN.{length}
 use Rattle.nodes.specs.Words.{var_at, low_at, high_at, child_at, has_words, with_node, with_terminals, capacity_of}
 use Rattle.nodes.specs.Standard.{Shape, Standard}
-use Rattle.nodes.specs.Extends.{Agree, Extends}
+use Rattle.nodes.specs.Extends.{Agree}
 use Rattle.nodes.specs.Clear.{clear_of}
 use Rattle.nodes.proofs.WordsLaws.{Has, has_words_lem, node_has, node-length}
 use Rattle.nodes.proofs.ExtendsLaws.{agree_var, agree_low, agree-high, agree_child, node-extends}

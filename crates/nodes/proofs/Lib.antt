@@ -1,5 +1,6 @@
 pub mod BoolLaws
 pub mod SearchLaws
+pub mod RangeLaws
 pub mod WordsLaws
 pub mod ExtendsLaws
 pub mod StandardLaws

@@ -1,24 +1,14 @@
 -- What `seek` finds, what `every` tells, and a step of each.
-use mathlib.Core.Path.{◌≡◌, refl, sym, ◌∙◌}
+use mathlib.Core.Path.{◌≡◌, refl, ◌∙◌}
 use mathlib.Core.Bool.{Bool, true, false, cond}
 use Prim.Native.Nat.{ℕ, zero, suc, ◌+◌, ◌-◌, ◌<◌, ◌≤◌}
 use native.Mathlib.Omega.{arith}
 use native.Mathlib.Numerals.{add-one}
 use native.Mathlib.Decide.{ℕ_discrete}
 use Rattle.nodes.specs.Search.{seek, every}
-use Rattle.nodes.proofs.BoolLaws.{split, cond_both}
+use Rattle.nodes.proofs.BoolLaws.{cond_both}
 
 module _ (p : ℕ → Bool) where
-  pub seek_end : (i k : ℕ) → k ≡ 0 → seek p i k ≡ i
-  unfolding seek
-  seek_end i k e = rw e
-
-  pub seek-step : (c i : ℕ) → i < c → seek p i (c - i) ≡ cond (p i) i (seek p (i + 1) (c - (i + 1)))
-  unfolding seek
-  seek-step c i h =
-      let e : c - i ≡ suc (c - (i + 1)) = omega arith in
-      rw (e, add-one i)
-
   -- what it finds it finds
   pub seek_hit : (k i : ℕ) → seek p i k < i + k → (i ≤ seek p i k) × (p (seek p i k) ≡ true)
   unfolding seek

@@ -1,14 +1,13 @@
 -- The test of standard form and the facts of standard form are each other.
-use mathlib.Core.Path.{◌≡◌, refl, sym, ◌∙◌}
-use mathlib.Core.Bool.{Bool, true, false, not, ◌&&◌, true≢false}
+use mathlib.Core.Path.{◌≡◌, sym, ◌∙◌}
+use mathlib.Core.Bool.{true, false, true≢false}
 use mathlib.Core.List.{List}
-use Prim.Native.Nat.{ℕ, zero, suc, ◌+◌, ◌*◌, ◌-◌, ◌<◌, ◌≤◌}
+use Prim.Native.Nat.{ℕ, zero, suc, ◌+◌, ◌-◌, ◌<◌, ◌≤◌}
 use native.Mathlib.Omega.{arith}
-use lib.Dec.{eqb, ltb, leb}
 use lib.ListN.{length}
 use borrow.Author.Tests.{lt-ltb, le-leb, eq-eqb, ne_eqb, ltb-true, leb-true, eqb-true, eqb-false, not-true}
 use Rattle.nodes.specs.Words.{var_at, low_at, high_at, has_words, capacity_of}
-use Rattle.nodes.specs.Search.{seek, every}
+use Rattle.nodes.specs.Search.{seek}
 use Rattle.nodes.specs.Standard.{counted, terminals, child_fits, shaped, lowest, first, is_standard, Shape, Standard}
 use Rattle.nodes.proofs.BoolLaws.{split, and_both, both_and}
 use Rattle.nodes.proofs.SearchLaws.{seek_miss, seek-none, every_is, is-every}

@@ -4,8 +4,8 @@ use mathlib.Core.Bool.{Bool, true, false, not}
 use Prim.Native.Nat.{ℕ, ◌+◌, ◌-◌, ◌<◌, ◌≤◌}
 use native.Mathlib.Omega.{arith}
 use borrow.Author.Tests.{not-true, not-false}
-use Rattle.nodes.specs.Search.{seek, every}
-use Rattle.nodes.proofs.SearchLaws.{seek-step, seek_end, every-step, every_end}
+use Rattle.nodes.specs.Search.{every}
+use Rattle.nodes.proofs.SearchLaws.{every-step, every_end}
 
 module _ {b t : Bool} (e : b ≡ t) where
   pub test_fails : not b ≡ true → t ≡ false
@@ -15,16 +15,6 @@ module _ {b t : Bool} (e : b ≡ t) where
   test-holds n = sym e ∙ not-false b n
 
 module _ (p : ℕ → Bool) (c i : ℕ) where
-  module _ {r : ℕ} (left : seek p i (c - i) ≡ r) where
-    pub seek_finds : i < c → {b : Bool} → b ≡ p i → b ≡ true → i ≡ r
-    seek_finds h e t = sym (seek-step p c i h ∙ rw (sym e ∙ t)) ∙ left
-
-    pub seek-goes_on : i < c → {b : Bool} → b ≡ p i → b ≡ false → seek p (i + 1) (c - (i + 1)) ≡ r
-    seek-goes_on h e t = sym (seek-step p c i h ∙ rw (sym e ∙ t)) ∙ left
-
-    pub seek-stops : c ≤ i → i ≡ r
-    seek-stops h = sym (seek_end p i (c - i) (omega arith)) ∙ left
-
   module _ {r : Bool} (left : every p i (c - i) ≡ r) where
     pub every_fails : i < c → {b : Bool} → b ≡ p i → not b ≡ true → false ≡ r
     every_fails h e n = sym (every-step p c i h ∙ rw (test_fails e n)) ∙ left

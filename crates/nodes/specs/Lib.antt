@@ -4,3 +4,4 @@ pub mod Standard
 pub mod Extends
 pub mod Clear
 pub mod Certificate
+pub mod Diagrams

@@ -1,5 +1,5 @@
 -- 01, 'Conditions': standard form, as the test that row 2 makes and as the facts that the test finds.
-use Rattle.std.specs.Prelude.{◌≡◌, Bool, true, false, not, ◌&&◌, List, ℕ, ◌*◌, ◌-◌, ◌<◌, ◌≤◌, eqb, ltb, leb, length}
+use Rattle.std.specs.Prelude.{◌≡◌, Bool, not, ◌&&◌, List, ℕ, ◌*◌, ◌-◌, ◌<◌, ◌≤◌, eqb, ltb, leb, length}
 use Rattle.nodes.specs.Words.{var_at, low_at, high_at, child_at, has_words, capacity_of}
 use Rattle.nodes.specs.Search.{seek, every}
 

@@ -5,16 +5,17 @@ ghost use Rattle.std.specs.Prelude.{◌≡◌, ℕ, ◌+◌, ◌*◌, ◌<◌, �
 ghost use Rattle.nodes.specs.Words.{var_at, low_at, high_at, has_words, with_node, with_terminals};
 ghost use Rattle.nodes.specs.Clear.{clear_of};
 
+mod diagrams;
 mod standard;
 
+pub use diagrams::Diagrams;
 pub use standard::is_standard;
 
 // The nodes that a slice of this many words holds.
 pub fn capacity(words: usize) -> u32
     ensures { result ≡ min (words / 3) 16384 }
 {
-    let n = words / 3;
-    if n < 16384 { n as u32 } else { 16384 }
+    (words / 3).min(16384) as u32
 }
 
 // A node's variable.
@@ -84,9 +85,6 @@ pub fn clear(words: &mut [u32], count: u32)
     ensures { words.new ≡ clear_of words.old count }
 {
     let end = (capacity(words.len()) as usize) * 3;
-    let mut k = (count as usize) * 3;
-    while k < end {
-        words[k] = 0;
-        k += 1;
-    }
+    let from = end.min((count as usize) * 3);
+    words[from..end].fill(0);
 }

@@ -50,14 +50,7 @@ fn all_shaped(words: &[u32], count: u32) -> bool
     requires { count * 3 ≤ length words.now }
     ensures { result ≡ every (shaped words.now) 2 (count - 2) }
 {
-    let mut n: u32 = 2;
-    while n < count {
-        if !is_shaped(words, n) {
-            return false;
-        }
-        n += 1;
-    }
-    true
+    (2..count).all(|n| is_shaped(words, n))
 }
 
 // The lowest node below the count with these words, or the count.
@@ -65,14 +58,9 @@ fn find_lowest(words: &[u32], count: u32, v: u32, lo: u32, hi: u32) -> u32
     requires { count * 3 ≤ length words.now }
     ensures { result ≡ lowest words.now count v lo hi }
 {
-    let mut n: u32 = 0;
-    while n < count {
-        if has_words(words, v, lo, hi, n) {
-            return n;
-        }
-        n += 1;
-    }
-    n
+    (0..count)
+        .find(|n| has_words(words, v, lo, hi, *n))
+        .unwrap_or(count)
 }
 
 // Whether no earlier node has the words of this one.
@@ -91,14 +79,7 @@ fn all_first(words: &[u32], count: u32) -> bool
     requires { count * 3 ≤ length words.now }
     ensures { result ≡ every (first words.now) 2 (count - 2) }
 {
-    let mut n: u32 = 2;
-    while n < count {
-        if !is_first(words, n) {
-            return false;
-        }
-        n += 1;
-    }
-    true
+    (2..count).all(|n| is_first(words, n))
 }
 
 // The number of a node's words.
@@ -123,12 +104,10 @@ fn chain(x: u64) -> usize
 fn chain_nodes(words: &[u32], count: u32, head: &mut [u32; 16384], next: &mut [u32; 16384])
     requires { (count * 3 ≤ length words.now) × (count ≤ 16384) }
 {
-    let mut n: u32 = 0;
-    while n < count {
+    for n in 0..count {
         let k = chain(number(words, n));
         next[n as usize] = head[k];
         head[k] = n;
-        n += 1;
     }
 }
 
@@ -138,8 +117,7 @@ fn find_in_chain(words: &[u32], next: &[u32; 16384], count: u32, x: u64, from: u
     ensures { result ≡ walk words.now next.now count x 32 from }
 {
     let mut n = from;
-    let mut i: u32 = 32;
-    while i > 0 {
+    for _ in 0..32u32 {
         if n >= count {
             return count;
         }
@@ -147,7 +125,6 @@ fn find_in_chain(words: &[u32], next: &[u32; 16384], count: u32, x: u64, from: u
             return n;
         }
         n = next[n as usize];
-        i -= 1;
     }
     count
 }
@@ -167,14 +144,7 @@ fn all_found(words: &[u32], head: &[u32; 16384], next: &[u32; 16384], count: u32
     requires { (count * 3 ≤ length words.now) × (count ≤ 16384) }
     ensures { result ≡ every (found words.now head.now next.now count) 0 count }
 {
-    let mut n: u32 = 0;
-    while n < count {
-        if !is_found(words, head, next, count, n) {
-            return false;
-        }
-        n += 1;
-    }
-    true
+    (0..count).all(|n| is_found(words, head, next, count, n))
 }
 
 // Whether the certificate shows that each node from 2 up is the first with its words. For few nodes the plain test is quicker.

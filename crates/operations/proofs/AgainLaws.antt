@@ -1,27 +1,20 @@
 -- An operation done again, in the store that it left or one grown out of that, builds nothing and answers the same node.
-use mathlib.Core.Path.{◌≡◌, refl, sym, ap, ◌∙◌}
-use mathlib.Core.Bool.{Bool, true, false, true≢false}
-use mathlib.Core.List.{List}
-use Prim.Native.Nat.{ℕ, zero, suc, ◌+◌, ◌*◌, ◌<◌, ◌≤◌}
-use native.Mathlib.Omega.{arith}
-use native.Mathlib.Decide.{dec_lt, ℕ_discrete}
-use Rattle.nodes.specs.Words.{var_at, capacity_of}
+use Rattle.std.proofs.Math.Decide.{dec_lt, ℕ_discrete}
+use Rattle.std.proofs.Common.{◌≡◌, refl, sym, ap, ◌∙◌, Bool, true, false, true≢false, List, ℕ, zero, suc, ◌+◌, ◌<◌, ◌≤◌, arith, Option, Some, None}
+use Rattle.nodes.specs.Words.{capacity_of}
 use Rattle.nodes.specs.Standard.{Standard, lowest}
 use Rattle.nodes.specs.Extends.{Agree, Extends}
 use Rattle.nodes.proofs.WordsLaws.{Has, node_has}
 use Rattle.nodes.proofs.ExtendsLaws.{extends_trans, agree_var, agree_low, agree-high, agree_child}
 use Rattle.operations.specs.declared.Store.{Store}
-use Rattle.operations.specs.declared.Plain.{Plain}
-use Rattle.operations.specs.declared.Plain.TheVariants.{Done, Split}
 use Rattle.operations.specs.Build.{Outcome, pure}
 use Rattle.operations.specs.Make.{Make}
 use Rattle.operations.specs.Ite.{plain_of, least_of, part_of, parts_of, Ite}
-use Rattle.operations.specs.Meaning.{Builds}
 use Rattle.operations.proofs.BuildLaws.{was_free}
 use Rattle.operations.proofs.MakeLaws.{make-full, make_same, make_old, make_new, make-none}
 use Rattle.search.proofs.LowestLaws.{lowest_has, lowest_is}
 use Rattle.diagrams.proofs.PartsLaws.{Ready}
-use Rattle.operations.proofs.IteLaws.{ready-builds, ready_later, ite-done, splits, split_var, split_low, split-high, split-make, split_all}
+use Rattle.operations.proofs.IteLaws.{ready-builds, ready_later, ite-done, split_var, split_low, split-high, split-make, split_all}
 
 -- a store that grew out of what an operation left, and is not full
 pub record Later (x : Outcome ℕ) (w : List ℕ) (s : Store) : Type 0 where
@@ -101,7 +94,7 @@ module _ (t : ℕ) (ih : Again t) (w : List ℕ) (s : Store) (f g h : ℕ) (less
   same_rule : s.full ≡ s'.full
   same_rule = was_free (ready-builds r) free ∙ sym l.free
 
-  parts_again : plain_of s.full f g h ≡ Split → Ite f g h w' s' ≡ pure (Ite f g h w s).answer w' s'
+  parts_again : plain_of s.full f g h ≡ None → Ite f g h w' s' ≡ pure (Ite f g h w s).answer w' s'
   unfolding Again
   parts_again e =
       let d = parts_of w f g h in
@@ -126,10 +119,10 @@ module _ (t : ℕ) (ih : Again t) (w : List ℕ) (s : Store) (f g h : ℕ) (less
       let ed : d ≡ parts_of w' f g h = sym (parts_agree (extends_trans X.extends lx.extends).old r) in
       sym (split_all w' s' f g h d ready (ap (λ b. plain_of b f g h) (sym same_rule) ∙ e) ed (sym ax) (sym ay) (sym az)) ∙ ap (λ (o : Outcome ℕ). pure o.answer w' s') ez
 
-  rule-again : (d : Plain) → plain_of s.full f g h ≡ d → Ite f g h w' s' ≡ pure (Ite f g h w s).answer w' s'
-  rule-again (Done n) e =
+  rule-again : (d : Option ℕ) → plain_of s.full f g h ≡ d → Ite f g h w' s' ≡ pure (Ite f g h w s).answer w' s'
+  rule-again (Some n) e =
       sym (ite-done w' s' f g h n ready (ap (λ b. plain_of b f g h) (sym same_rule) ∙ e)) ∙ ap (λ (o : Outcome ℕ). pure o.answer w' s') (ite-done w s f g h n r e)
-  rule-again Split e = parts_again e
+  rule-again None e = parts_again e
 
 again_up_to : (t : ℕ) → Again t
 unfolding Again

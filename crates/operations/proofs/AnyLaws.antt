@@ -1,19 +1,11 @@
 -- What Any leaves and means, and its rule with no bound on the steps.
-use mathlib.Core.Path.{◌≡◌, refl, sym, ap, ◌∙◌}
-use mathlib.Core.Bool.{Bool, true, false, cond, ◌||◌}
-use mathlib.Core.Logic.{⊎_elim}
-use mathlib.Core.List.{List}
-use Prim.Native.Nat.{ℕ, zero, suc, ◌<◌, ◌≤◌}
-use native.Mathlib.Omega.{arith}
-use native.Mathlib.Decide.{dec_lt}
-use borrow.Author.Tests.{lt-ltb, le-ltb}
+use Rattle.std.proofs.Math.Decide.{dec_lt}
+use Rattle.std.proofs.Common.{◌≡◌, refl, sym, ◌∙◌, Bool, true, false, cond, ◌||◌, ⊎_elim, List, ℕ, zero, suc, ◌<◌, ◌≤◌, arith, lt-ltb, le-ltb, Option, Some, None}
 use Rattle.nodes.specs.Words.{var_at, low_at, high_at}
-use Rattle.nodes.specs.Standard.{Shape, Standard}
+use Rattle.nodes.specs.Standard.{Standard}
 use Rattle.nodes.proofs.BoolLaws.{or_cases, or_left, or_right, iff-same}
 use Rattle.nodes.proofs.GrowthLaws.{inner}
 use Rattle.operations.specs.declared.Store.{Store}
-use Rattle.operations.specs.declared.Plain.{Plain}
-use Rattle.operations.specs.declared.Plain.TheVariants.{Done, Split}
 use Rattle.operations.specs.Build.{Outcome, Build, pure, next}
 use Rattle.operations.specs.Ite.{Or}
 use Rattle.operations.specs.Any.{stop_of, any_by, any_up_to, Any}
@@ -23,13 +15,13 @@ use Rattle.operations.specs.Meaning.{Meaning, Stands, Builds}
 use Rattle.diagrams.proofs.ValueLaws.{value-step}
 use Rattle.diagrams.proofs.AssignmentLaws.{change-same, change_other, some_has, some_all}
 use Rattle.diagrams.proofs.CanonLaws.{value-from, value-change}
-use Rattle.operations.proofs.BuildLaws.{pure-builds, next-builds, keep, builds-same, stands_same, stands-value, stands-full}
+use Rattle.operations.proofs.BuildLaws.{pure-builds, next-builds, keep, builds-same, stands-value, stands-full}
 use Rattle.operations.proofs.IteLaws.{or-builds}
 
-pub data Stop (full : Bool) (v f : ℕ) : Plain → Type 0 where
-  stop-full : full ≡ true → Stop full v f (Done 0)
-  stop_user : full ≡ false → 8 ≤ v → Stop full v f (Done f)
-  stop_not : full ≡ false → v < 8 → Stop full v f Split
+pub data Stop (full : Bool) (v f : ℕ) : Option ℕ → Type 0 where
+  stop-full : full ≡ true → Stop full v f (Some 0)
+  stop_user : full ≡ false → 8 ≤ v → Stop full v f (Some f)
+  stop_not : full ≡ false → v < 8 → Stop full v f None
 
 stop : (full : Bool) (v f : ℕ) → Stop full v f (stop_of full v f)
 unfolding stop_of
@@ -88,7 +80,7 @@ Law : (ℕ → Build ℕ) → ℕ → Type 0
 Law rec t = (w : List ℕ) (s : Store) (f u : ℕ) (p : Meaning) → f < t → Standard w s.count → Stands u p w s f → Builds w s (Stands 8 (some 8 p)) (rec f w s)
 
 module _ (rec : ℕ → Build ℕ) (t : ℕ) (law : Law rec t) (w : List ℕ) (s : Store) (f u : ℕ) (p : Meaning) (less : f < suc t) (S : Standard w s.count) (F : Stands u p w s f) where
-  children-builds : var_at w f < 8 → Builds w s (Stands 8 (some 8 p)) (any_by rec Split f w s)
+  children-builds : var_at w f < 8 → Builds w s (Stands 8 (some 8 p)) (any_by rec None f w s)
   unfolding any_by Law
   children-builds index =
       let l : 2 ≤ f = inner S f F.below (omega arith) in
@@ -102,7 +94,7 @@ module _ (rec : ℕ → Build ℕ) (t : ℕ) (law : Law rec t) (w : List ℕ) (s
       builds-same (next-builds X _ (next-builds Y _ (or-builds Y.standard (keep Y X.standard X.post) Y.post)))
       (λ e φ. some_children S f l F.below index φ ∙ some_same 8 φ (F.is e))
 
-  stop-builds : (d : Plain) → Stop s.full (var_at w f) f d → Builds w s (Stands 8 (some 8 p)) (any_by rec d f w s)
+  stop-builds : (d : Option ℕ) → Stop s.full (var_at w f) f d → Builds w s (Stands 8 (some 8 p)) (any_by rec d f w s)
   unfolding any_by
   stop-builds d (stop-full e) = pure-builds S (stands-full 8 S (omega arith) e)
   stop-builds d (stop_user e k) =
@@ -130,7 +122,7 @@ below-builds {w} s {f} S h = any-builds S (stands-value w s 0 f h (omega arith))
 -- two functions for the children that agree below t give one answer
 module _ (rec rec' : ℕ → Build ℕ) (t : ℕ) (law : Law rec t) (same : (w : List ℕ) (s : Store) (f : ℕ) → f < t → Standard w s.count → f < s.count → rec f w s ≡ rec' f w s)
     (w : List ℕ) (s : Store) (f : ℕ) (less : f < suc t) (S : Standard w s.count) (h : f < s.count) where
-  children-same : var_at w f < 8 → any_by rec Split f w s ≡ any_by rec' Split f w s
+  children-same : var_at w f < 8 → any_by rec None f w s ≡ any_by rec' None f w s
   unfolding any_by Law next
   children-same index =
       let l : 2 ≤ f = inner S f h (omega arith) in
@@ -143,7 +135,7 @@ module _ (rec rec' : ℕ → Build ℕ) (t : ℕ) (law : Law rec t) (same : (w :
       let d : rec (high_at w f) x.words x.store ≡ rec' (high_at w f) x.words x.store = same x.words x.store (high_at w f) (omega arith) X.standard (omega (arith, X.extends.more)) in
       rw (← e, ← d)
 
-  stop-same : (d : Plain) → Stop s.full (var_at w f) f d → any_by rec d f w s ≡ any_by rec' d f w s
+  stop-same : (d : Option ℕ) → Stop s.full (var_at w f) f d → any_by rec d f w s ≡ any_by rec' d f w s
   unfolding any_by
   stop-same d (stop-full e) = refl
   stop-same d (stop_user e k) = refl
@@ -163,17 +155,17 @@ any_rule w s f S h =
     stop-same (any_up_to f) Any f (up_to-builds f) (λ w s f' l S h. sym (up_to-same (suc f') f w s f' (omega arith) l S h)) w s f (omega arith) S h (stop_of s.full (var_at w f) f)
     (stop s.full (var_at w f) f)
 
-pub any-done : (w : List ℕ) (s : Store) (f v n : ℕ) → Standard w s.count → f < s.count → v ≡ var_at w f → stop_of s.full v f ≡ Done n → pure n w s ≡ Any f w s
+pub any-done : (w : List ℕ) (s : Store) (f v n : ℕ) → Standard w s.count → f < s.count → v ≡ var_at w f → stop_of s.full v f ≡ Some n → pure n w s ≡ Any f w s
 unfolding any_by
 any-done w s f v n S h k e = rw (any_rule w s f S h, ← k, e)
 
-stop_index : {full : Bool} {v f : ℕ} {d : Plain} → Stop full v f d → d ≡ Split → v < 8
+stop_index : {full : Bool} {v f : ℕ} {d : Option ℕ} → Stop full v f d → d ≡ None → v < 8
 stop_index (stop-full e) k = let z : ◌≡◌ {A = ℕ} 0 1 = cc in omega arith
 stop_index (stop_user e n) k = let z : ◌≡◌ {A = ℕ} 0 1 = cc in omega arith
 stop_index (stop_not e n) k = n
 
 -- the children, one call after the other
-module _ (w : List ℕ) (s : Store) (f v lo hi : ℕ) (S : Standard w s.count) (h : f < s.count) (k : v ≡ var_at w f) (e : stop_of s.full v f ≡ Split) (el : lo ≡ low_at w f) (eh : hi ≡ high_at w f) where
+module _ (w : List ℕ) (s : Store) (f v lo hi : ℕ) (S : Standard w s.count) (h : f < s.count) (k : v ≡ var_at w f) (e : stop_of s.full v f ≡ None) (el : lo ≡ low_at w f) (eh : hi ≡ high_at w f) where
   pub children-below : (lo < f) × (hi < f)
   children-below =
       let n = stop_index (stop s.full v f) e in

@@ -1,12 +1,7 @@
 -- What steps keep, one after another.
-use mathlib.Core.Path.{◌≡◌, refl, sym, ap, ◌∙◌}
-use mathlib.Core.Bool.{Bool, true, false, true≢false}
-use mathlib.Core.List.{List}
-use Prim.Native.Nat.{ℕ, zero, suc, ◌+◌, ◌-◌, ◌<◌, ◌≤◌}
-use native.Mathlib.Omega.{arith}
-use native.Mathlib.Numerals.{add-one}
+use Rattle.std.proofs.Common.{◌≡◌, refl, sym, ap, ◌∙◌, Bool, true, false, true≢false, List, ℕ, zero, suc, ◌+◌, ◌-◌, ◌<◌, ◌≤◌, arith, add-one}
 use Rattle.nodes.specs.Standard.{Standard}
-use Rattle.nodes.specs.Extends.{Agree, Extends}
+use Rattle.nodes.specs.Extends.{Agree}
 use Rattle.nodes.specs.Clear.{clear_of}
 use Rattle.nodes.proofs.BoolLaws.{split}
 use Rattle.nodes.proofs.ExtendsLaws.{extends_refl, extends_trans, agree_var}

@@ -1,11 +1,6 @@
 -- Make by its cases, in these words and in longer ones: it answers a node that is there, or adds one; or it needs one and there is no space here.
-use mathlib.Core.Path.{◌≡◌, refl, sym, ap, ◌∙◌}
-use mathlib.Core.Bool.{true, false, true≢false}
-use mathlib.Core.Logic.{◌⊎◌, inl, inr}
-use mathlib.Core.List.{List}
-use Prim.Native.Nat.{ℕ, ◌+◌, ◌/◌, ◌<◌, ◌≤◌, min}
-use native.Mathlib.Omega.{arith}
-use native.Mathlib.Decide.{dec_lt, ℕ_discrete}
+use Rattle.std.proofs.Math.Decide.{dec_lt, ℕ_discrete}
+use Rattle.std.proofs.Common.{◌≡◌, refl, sym, ap, ◌∙◌, true, false, true≢false, ◌⊎◌, inl, inr, List, ℕ, ◌+◌, ◌/◌, ◌<◌, ◌≤◌, min, arith}
 use Rattle.nodes.specs.Words.{capacity_of}
 use Rattle.nodes.specs.Standard.{lowest}
 use Rattle.nodes.proofs.WordsLaws.{node-length}

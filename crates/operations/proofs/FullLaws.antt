@@ -1,17 +1,10 @@
 -- Every program that builds nodes makes a store full at its capacity alone; and in longer words it does the same, up to there.
-use mathlib.Core.Path.{◌≡◌, refl, sym, ap, subst, ◌∙◌}
-use mathlib.Core.Bool.{true, false, true≢false}
-use mathlib.Core.Logic.{◌⊎◌, inl, inr}
-use mathlib.Core.List.{List}
-use Prim.Native.Nat.{ℕ, zero, suc, ◌+◌, ◌*◌, ◌/◌, ◌<◌, min}
-use native.Mathlib.Omega.{arith}
+use Rattle.std.proofs.Common.{◌≡◌, refl, sym, ap, subst, ◌∙◌, true, false, true≢false, ◌⊎◌, inl, inr, List, ℕ, zero, suc, ◌+◌, ◌*◌, ◌/◌, ◌<◌, min, arith, Option, Some, None}
 use Rattle.nodes.specs.Words.{var_at, low_at, high_at, capacity_of}
 use Rattle.nodes.specs.Standard.{Standard}
 use Rattle.nodes.proofs.WordsLaws.{node-length}
 use Rattle.nodes.proofs.BoolLaws.{split}
 use Rattle.operations.specs.declared.Store.{Store}
-use Rattle.operations.specs.declared.Plain.{Plain}
-use Rattle.operations.specs.declared.Plain.TheVariants.{Done, Split}
 use Rattle.operations.specs.Build.{Outcome, Build, pure, next, ◌>>=◌, for_each}
 use Rattle.operations.specs.Make.{Make, Variable}
 use Rattle.operations.specs.Ite.{parts_of, plain_of, by_parts, ite_by, ite_up_to, Ite}
@@ -97,10 +90,10 @@ make-fills v lo hi =
 pub variable-fills : (v : ℕ) → Fills (Variable v)
 variable-fills v = make-fills v 0 1
 
-by-fills : (rec : ℕ → ℕ → ℕ → Build ℕ) → ((f g h : ℕ) → Fills (rec f g h)) → (d : Plain) (f g h : ℕ) → Fills (ite_by rec d f g h)
+by-fills : (rec : ℕ → ℕ → ℕ → Build ℕ) → ((f g h : ℕ) → Fills (rec f g h)) → (d : Option ℕ) (f g h : ℕ) → Fills (ite_by rec d f g h)
 unfolding ite_by
-by-fills rec R (Done n) f g h = pure-fills n
-by-fills rec R Split f g h = reads-fills (by_parts rec) (λ w s. parts_of w f g h) (λ k w s. parts-longer k w f g h) (λ d. next-fills (R _ _ _) (λ x. next-fills (R _ _ _) (λ y. make-fills _ _ _)))
+by-fills rec R (Some n) f g h = pure-fills n
+by-fills rec R None f g h = reads-fills (by_parts rec) (λ w s. parts_of w f g h) (λ k w s. parts-longer k w f g h) (λ d. next-fills (R _ _ _) (λ x. next-fills (R _ _ _) (λ y. make-fills _ _ _)))
 
 up_to-fills : (k f g h : ℕ) → Fills (ite_up_to k f g h)
 unfolding ite_up_to
@@ -111,10 +104,10 @@ pub ite-fills : (f g h : ℕ) → Fills (Ite f g h)
 unfolding Ite
 ite-fills f g h = up_to-fills (suc (f + g + h)) f g h
 
-stop-fills : (rec : ℕ → Build ℕ) → ((f : ℕ) → Fills (rec f)) → (d : Plain) (f : ℕ) → Fills (any_by rec d f)
+stop-fills : (rec : ℕ → Build ℕ) → ((f : ℕ) → Fills (rec f)) → (d : Option ℕ) (f : ℕ) → Fills (any_by rec d f)
 unfolding any_by
-stop-fills rec R (Done n) f = pure-fills n
-stop-fills rec R Split f = reads-fills (λ (c : ℕ × ℕ). by_children rec c.0 c.1) (λ w s. (low_at w f, high_at w f)) (λ k w s. rw (get_d-longer k w (f * 3 + 1), get_d-longer k w (f * 3 + 2)) refl) (λ c. next-fills (R _) (λ x. next-fills (R _) (λ y. ite-fills _ _ _)))
+stop-fills rec R (Some n) f = pure-fills n
+stop-fills rec R None f = reads-fills (λ (c : ℕ × ℕ). by_children rec c.0 c.1) (λ w s. (low_at w f, high_at w f)) (λ k w s. rw (get_d-longer k w (f * 3 + 1), get_d-longer k w (f * 3 + 2)) refl) (λ c. next-fills (R _) (λ x. next-fills (R _) (λ y. ite-fills _ _ _)))
 
 any_up_to-fills : (k f : ℕ) → Fills (any_up_to k f)
 unfolding any_up_to

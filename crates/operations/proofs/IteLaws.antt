@@ -1,15 +1,9 @@
 -- What Ite leaves and means, and its rule with no bound on the steps.
-use mathlib.Core.Path.{◌≡◌, refl, sym, ap, ◌∙◌}
-use mathlib.Core.Bool.{Bool, true, false, cond, not, ◌&&◌, ◌||◌}
-use mathlib.Core.List.{List}
-use Prim.Native.Nat.{ℕ, zero, suc, ◌+◌, ◌<◌, ◌≤◌}
-use native.Mathlib.Omega.{arith}
+use Rattle.std.proofs.Common.{◌≡◌, refl, sym, ap, ◌∙◌, Bool, true, false, cond, not, ◌&&◌, ◌||◌, List, ℕ, zero, suc, ◌+◌, ◌<◌, ◌≤◌, arith, Option, Some, None}
 use Rattle.nodes.specs.Words.{var_at}
 use Rattle.nodes.specs.Standard.{Standard}
 use Rattle.operations.specs.declared.Store.{Store}
 use Rattle.diagrams.specs.declared.Parts.{Parts}
-use Rattle.operations.specs.declared.Plain.{Plain}
-use Rattle.operations.specs.declared.Plain.TheVariants.{Done, Split}
 use Rattle.operations.specs.Build.{Outcome, Build, pure, next}
 use Rattle.operations.specs.Make.{Make}
 use Rattle.operations.specs.Ite.{plain_of, least_of, part_of, parts_of, ite_by, ite_up_to, Ite, Not, And, Or}
@@ -53,7 +47,7 @@ Law rec t =
 
 module _ (rec : ℕ → ℕ → ℕ → Build ℕ) (t : ℕ) (law : Law rec t) (w : List ℕ) (s : Store) (f g h u : ℕ) (p q r : Meaning) (less : f + g + h < suc t)
     (S : Standard w s.count) (F : Stands u p w s f) (G : Stands u q w s g) (H : Stands u r w s h) where
-  split-builds : (f ≡ 1 → ⊥) → (f ≡ 0 → ⊥) → Builds w s (Stands u (λ φ. cond (p φ) (q φ) (r φ))) (ite_by rec Split f g h w s)
+  split-builds : (f ≡ 1 → ⊥) → (f ≡ 0 → ⊥) → Builds w s (Stands u (λ φ. cond (p φ) (q φ) (r φ))) (ite_by rec None f g h w s)
   unfolding ite_by Law
   split-builds n1 n0 =
       let R : Ready w s.count f g h = record { standard = S; first = F.below; second = G.below; third = H.below } in
@@ -71,7 +65,7 @@ module _ (rec : ℕ → ℕ → ℕ → Build ℕ) (t : ℕ) (law : Law rec t) (
       builds-same (next-builds X _ (next-builds Y _ (builds_weaker Z (stands_from (omega (arith, F.from, G.from, H.from))))))
       (λ e φ. sides f g h R n1 n0 φ (φ v) refl ∙ (rw (F.is e φ, G.is e φ, H.is e φ)))
 
-  rule-builds : (d : Plain) → Rule s.full f g h d → Builds w s (Stands u (λ φ. cond (p φ) (q φ) (r φ))) (ite_by rec d f g h w s)
+  rule-builds : (d : Option ℕ) → Rule s.full f g h d → Builds w s (Stands u (λ φ. cond (p φ) (q φ) (r φ))) (ite_by rec d f g h w s)
   unfolding ite_by
   rule-builds d (at-full e) = pure-builds S (stands-full u S (from-most S F) e)
   rule-builds d (at_one e o) = pure-builds S (stands_same G (λ f φ. let t : p φ ≡ true = sym (F.is f φ) ∙ (rw o (value_1 w φ)) in rw t))
@@ -136,7 +130,7 @@ ready_later X r = record {
 -- two functions for the parts that agree below t give one answer
 module _ (rec rec' : ℕ → ℕ → ℕ → Build ℕ) (t : ℕ) (law : Law rec t) (same : (w : List ℕ) (s : Store) (f g h : ℕ) → f + g + h < t → Ready w s.count f g h → rec f g h w s ≡ rec' f g h w s)
     (w : List ℕ) (s : Store) (f g h : ℕ) (less : f + g + h < suc t) (r : Ready w s.count f g h) where
-  split-same : (f ≡ 1 → ⊥) → (f ≡ 0 → ⊥) → ite_by rec Split f g h w s ≡ ite_by rec' Split f g h w s
+  split-same : (f ≡ 1 → ⊥) → (f ≡ 0 → ⊥) → ite_by rec None f g h w s ≡ ite_by rec' None f g h w s
   unfolding ite_by Law next
   split-same n1 n0 =
       let d = parts_of w f g h in
@@ -150,7 +144,7 @@ module _ (rec rec' : ℕ → ℕ → ℕ → Build ℕ) (t : ℕ) (law : Law rec
       let d' : rec d.f1 d.g1 d.h1 x.words x.store ≡ rec' d.f1 d.g1 d.h1 x.words x.store = same x.words x.store d.f1 d.g1 d.h1 (omega (arith, parts_fall f g h r n1 n0 true)) (ready_later X r1) in
       rw (← e, ← d')
 
-  rule-same : (d : Plain) → Rule s.full f g h d → ite_by rec d f g h w s ≡ ite_by rec' d f g h w s
+  rule-same : (d : Option ℕ) → Rule s.full f g h d → ite_by rec d f g h w s ≡ ite_by rec' d f g h w s
   unfolding ite_by
   rule-same d (at-full e) = refl
   rule-same d (at_one e o) = refl
@@ -174,7 +168,7 @@ ite_rule w s f g h r =
     w s f g h (omega arith) r (plain_of s.full f g h) (rule s.full f g h)
 
 -- where a rule that builds nothing fits
-pub ite-done : (w : List ℕ) (s : Store) (f g h n : ℕ) → Ready w s.count f g h → plain_of s.full f g h ≡ Done n → pure n w s ≡ Ite f g h w s
+pub ite-done : (w : List ℕ) (s : Store) (f g h n : ℕ) → Ready w s.count f g h → plain_of s.full f g h ≡ Some n → pure n w s ≡ Ite f g h w s
 unfolding ite_by
 ite-done w s f g h n r e = rw (ite_rule w s f g h r, e)
 
@@ -184,7 +178,7 @@ pub record Splits (full : Bool) (f : ℕ) : Type 0 where
   pub not1 : f ≡ 1 → ⊥
   pub not0 : f ≡ 0 → ⊥
 
-splits_rule : {full : Bool} {f g h : ℕ} {d : Plain} → Rule full f g h d → d ≡ Split → Splits full f
+splits_rule : {full : Bool} {f g h : ℕ} {d : Option ℕ} → Rule full f g h d → d ≡ None → Splits full f
 splits_rule (at-full e) k = let z : ◌≡◌ {A = ℕ} 0 1 = cc in absurd (omega arith)
 splits_rule (at_one e o) k = let z : ◌≡◌ {A = ℕ} 0 1 = cc in absurd (omega arith)
 splits_rule (at_zero e o) k = let z : ◌≡◌ {A = ℕ} 0 1 = cc in absurd (omega arith)
@@ -192,11 +186,11 @@ splits_rule (at_same e o) k = let z : ◌≡◌ {A = ℕ} 0 1 = cc in absurd (om
 splits_rule (at_self e o z) k = let z : ◌≡◌ {A = ℕ} 0 1 = cc in absurd (omega arith)
 splits_rule (at_parts e n1 n0 n) k = record { free = e; not1 = n1; not0 = n0 }
 
-pub splits : (full : Bool) (f g h : ℕ) → plain_of full f g h ≡ Split → Splits full f
+pub splits : (full : Bool) (f g h : ℕ) → plain_of full f g h ≡ None → Splits full f
 splits full f g h e = splits_rule (rule full f g h) e
 
 -- the parts, one call after the other
-module _ (w : List ℕ) (s : Store) (f g h : ℕ) (d : Parts) (r : Ready w s.count f g h) (e : plain_of s.full f g h ≡ Split) (ed : d ≡ parts_of w f g h) where
+module _ (w : List ℕ) (s : Store) (f g h : ℕ) (d : Parts) (r : Ready w s.count f g h) (e : plain_of s.full f g h ≡ None) (ed : d ≡ parts_of w f g h) where
   n : Splits s.full f
   n = splits s.full f g h e
 
@@ -213,9 +207,9 @@ module _ (w : List ℕ) (s : Store) (f g h : ℕ) (d : Parts) (r : Ready w s.cou
   part_floor b n' l top = part_stands r.standard (least_of w f g h) n' l (least-small f g h r n.not1 n.not0) top b
 
   module _ {x y : Outcome ℕ} (ex : x ≡ Ite d.f0 d.g0 d.h0 w s) (ey : y ≡ Ite d.f1 d.g1 d.h1 x.words x.store) where
-    -- Make at the end of Ite, over what the two calls left
-    pub split-make : Builds y.words y.store (Stands d.v (λ φ. cond (φ d.v) (Chosen w d.f1 d.g1 d.h1 φ) (Chosen w d.f0 d.g0 d.h0 φ))) (Make d.v x.answer y.answer y.words y.store)
-    split-make =
+    -- what the two calls left, and the two answers in it, on variables above d's
+    pub split_left : Standard y.words y.store.count × Stands (suc d.v) (Chosen w d.f0 d.g0 d.h0) y.words y.store x.answer × Stands (suc d.v) (Chosen w d.f1 d.g1 d.h1) y.words y.store y.answer
+    split_left =
         let v = least_of w f g h in
         let S = r.standard in
         let ex' : x ≡ Ite (part_of false w v f) (part_of false w v g) (part_of false w v h) w s = rw ed at ex in
@@ -224,7 +218,11 @@ module _ (w : List ℕ) (s : Store) (f g h : ℕ) (d : Parts) (r : Ready w s.cou
         rw ex' (ite-builds S (part_floor false f r.first (omega arith)) (part_floor false g r.second (omega arith)) (part_floor false h r.third (omega arith))) in
         let Y : Builds x.words x.store (Stands (suc v) (Chosen w (part_of true w v f) (part_of true w v g) (part_of true w v h))) y =
         rw ey' (ite-builds X.standard (keep X S (part_floor true f r.first (omega arith))) (keep X S (part_floor true g r.second (omega arith))) (keep X S (part_floor true h r.third (omega arith)))) in
-        rw ed (make-builds Y.standard (least-small f g h r n.not1 n.not0) (keep Y X.standard X.post) Y.post)
+        rw ed (Y.standard, keep Y X.standard X.post, Y.post)
+
+    -- Make at the end of Ite, over what the two calls left
+    pub split-make : Builds y.words y.store (Stands d.v (λ φ. cond (φ d.v) (Chosen w d.f1 d.g1 d.h1 φ) (Chosen w d.f0 d.g0 d.h0 φ))) (Make d.v x.answer y.answer y.words y.store)
+    split-make = make-builds split_left.0 split_var split_left.1 split_left.2
 
     pub split_all : {z : Outcome ℕ} → z ≡ Make d.v x.answer y.answer y.words y.store → z ≡ Ite f g h w s
     unfolding ite_by next

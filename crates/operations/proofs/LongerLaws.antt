@@ -1,15 +1,9 @@
 -- Words lent with more of them, all 0: what is read of a store there is what is read of it here.
-use mathlib.Core.Path.{◌≡◌, refl, sym, ap, ◌∙◌}
-use mathlib.Core.Bool.{Bool, true, false}
-use mathlib.Core.List.{List, [], ◌∷◌, ◌++◌}
-use Prim.Native.Nat.{ℕ, zero, suc, ◌+◌, ◌*◌, ◌<◌, ◌≤◌}
-use native.Mathlib.Omega.{arith}
-use lib.ListN.{length, get_or, set, replicate, length-append, length-replicate, length-set}
-use lib.Dec.{ltb}
+use lib.ListN.{length-replicate}
+use Rattle.std.proofs.Common.{◌≡◌, refl, ap, ◌∙◌, Bool, true, false, List, [], ◌∷◌, ℕ, zero, suc, ◌+◌, ◌*◌, ◌<◌, ◌≤◌, arith, ltb, length, get_or, set, replicate, length-append, length-set}
 use Rattle.nodes.specs.Words.{var_at, low_at, high_at, has_words, with_node, capacity_of}
 use Rattle.nodes.specs.Search.{seek}
 use Rattle.nodes.specs.Standard.{lowest}
-use Rattle.diagrams.specs.declared.Parts.{Parts}
 use Rattle.diagrams.specs.Parts.{least_of, part_of, parts_of}
 use Rattle.diagrams.specs.Value.{branch, eval, grow, tree_of, value}
 use Rattle.operations.specs.Meaning.{longer}

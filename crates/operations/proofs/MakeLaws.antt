@@ -1,11 +1,6 @@
 -- Make by its cases, and what it leaves.
-use mathlib.Core.Path.{◌≡◌, refl, sym, ap, ◌∙◌}
-use mathlib.Core.Bool.{Bool, true, false, cond, true≢false}
-use mathlib.Core.List.{List}
-use Prim.Native.Nat.{ℕ, suc, ◌+◌, ◌<◌, ◌≤◌}
-use native.Mathlib.Omega.{arith}
-use native.Mathlib.Decide.{dec_lt, ℕ_discrete}
-use borrow.Author.Tests.{eq-eqb, ne_eqb, lt-ltb, le-ltb}
+use Rattle.std.proofs.Math.Decide.{dec_lt, ℕ_discrete}
+use Rattle.std.proofs.Common.{◌≡◌, refl, sym, ap, ◌∙◌, Bool, true, false, cond, true≢false, List, ℕ, suc, ◌+◌, ◌<◌, ◌≤◌, arith, eq-eqb, ne_eqb, lt-ltb, le-ltb}
 use Rattle.nodes.specs.Words.{has_words, with_node, capacity_of}
 use Rattle.nodes.specs.Standard.{Standard, lowest}
 use Rattle.nodes.proofs.WordsLaws.{Has, words_has, node_has}

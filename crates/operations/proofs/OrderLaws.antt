@@ -1,5 +1,5 @@
 -- The order in which Ite and Any build, computed.
-use mathlib.Core.Path.{refl}
+use Rattle.std.proofs.Common.{refl}
 use Rattle.operations.specs.Computing.{computing}
 use Rattle.operations.specs.Orders.{Leaves, anded, settled}
 

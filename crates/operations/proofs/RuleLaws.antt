@@ -1,16 +1,9 @@
 -- The rules of Ite that build nothing, and what a part stands for.
-use mathlib.Core.Path.{◌≡◌, refl}
-use mathlib.Core.Bool.{Bool, true, false}
-use mathlib.Core.List.{List}
-use Prim.Native.Nat.{ℕ, suc, ◌<◌, ◌≤◌}
-use native.Mathlib.Omega.{arith}
-use native.Mathlib.Decide.{ℕ_discrete}
-use borrow.Author.Tests.{eq-eqb, ne_eqb}
+use Rattle.std.proofs.Math.Decide.{ℕ_discrete}
+use Rattle.std.proofs.Common.{◌≡◌, refl, Bool, true, false, List, ℕ, suc, ◌<◌, ◌≤◌, arith, eq-eqb, ne_eqb, Option, Some, None}
 use Rattle.nodes.specs.Words.{var_at}
 use Rattle.nodes.specs.Standard.{Standard}
 use Rattle.diagrams.proofs.PartsLaws.{part_le, part_var}
-use Rattle.operations.specs.declared.Plain.{Plain}
-use Rattle.operations.specs.declared.Plain.TheVariants.{Done, Split}
 use Rattle.operations.specs.declared.Store.{Store}
 use Rattle.operations.specs.Ite.{plain_of, part_of}
 use Rattle.diagrams.specs.Value.{value}
@@ -18,13 +11,13 @@ use Rattle.operations.specs.Meaning.{Stands}
 use Rattle.operations.proofs.BuildLaws.{stands-value}
 
 -- the rule that fits, by what it answers
-pub data Rule (full : Bool) (f g h : ℕ) : Plain → Type 0 where
-  at-full : full ≡ true → Rule full f g h (Done 0)
-  at_one : full ≡ false → f ≡ 1 → Rule full f g h (Done g)
-  at_zero : full ≡ false → f ≡ 0 → Rule full f g h (Done h)
-  at_same : full ≡ false → g ≡ h → Rule full f g h (Done g)
-  at_self : full ≡ false → g ≡ 1 → h ≡ 0 → Rule full f g h (Done f)
-  at_parts : full ≡ false → (f ≡ 1 → ⊥) → (f ≡ 0 → ⊥) → (g ≡ h → ⊥) → Rule full f g h Split
+pub data Rule (full : Bool) (f g h : ℕ) : Option ℕ → Type 0 where
+  at-full : full ≡ true → Rule full f g h (Some 0)
+  at_one : full ≡ false → f ≡ 1 → Rule full f g h (Some g)
+  at_zero : full ≡ false → f ≡ 0 → Rule full f g h (Some h)
+  at_same : full ≡ false → g ≡ h → Rule full f g h (Some g)
+  at_self : full ≡ false → g ≡ 1 → h ≡ 0 → Rule full f g h (Some f)
+  at_parts : full ≡ false → (f ≡ 1 → ⊥) → (f ≡ 0 → ⊥) → (g ≡ h → ⊥) → Rule full f g h None
 
 pub rule : (full : Bool) (f g h : ℕ) → Rule full f g h (plain_of full f g h)
 unfolding plain_of

@@ -1,10 +1,5 @@
 -- Nodes on no index variable, and the node of what always holds.
-use mathlib.Core.Path.{◌≡◌, refl, sym, ap, ◌∙◌}
-use mathlib.Core.Bool.{Bool, true, false}
-use mathlib.Core.List.{List}
-use Prim.Native.Nat.{ℕ, ◌<◌, ◌≤◌}
-use native.Mathlib.Omega.{arith}
-use borrow.Author.Tests.{lt-ltb, le-leb, ltb-true, leb-true}
+use Rattle.std.proofs.Common.{◌≡◌, sym, ◌∙◌, Bool, true, false, List, ℕ, ◌<◌, ◌≤◌, lt-ltb, le-leb, ltb-true, leb-true}
 use Rattle.nodes.specs.Words.{var_at}
 use Rattle.nodes.specs.Standard.{Standard}
 use Rattle.nodes.proofs.BoolLaws.{cond_both}
@@ -12,8 +7,7 @@ use Rattle.operations.specs.declared.Store.{Store}
 use Rattle.diagrams.specs.Value.{value}
 use Rattle.operations.specs.Meaning.{Meaning, From, Stands}
 use Rattle.operations.specs.User.{is_user}
-use Rattle.diagrams.proofs.ValueLaws.{value_1}
-use Rattle.diagrams.proofs.CanonLaws.{node-same, value-from}
+use Rattle.diagrams.proofs.CanonLaws.{value-from}
 use Rattle.operations.proofs.BuildLaws.{stands-value}
 
 -- what row 5 finds

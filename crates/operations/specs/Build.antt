@@ -2,7 +2,6 @@
 -- A node needed past the capacity makes the store full; once full, nothing more is built.
 use Rattle.std.specs.Prelude.{List, ℕ, zero, suc}
 use Rattle.operations.specs.declared.Store.{Store}
-use Rattle.operations.specs.declared.Built.{Built}
 
 -- what a step leaves, and its answer
 pub record Outcome (A : Type 0) : Type 0 where
@@ -29,7 +28,3 @@ abbrev pub ◌>>=◌ : {A B : Type 0} → Build A → (A → Build B) → Build 
 unfoldable pub for_each : {A : Type 0} → (ℕ → A → Build A) → ℕ → ℕ → A → Build A
 for_each f i zero a w s = pure a w s
 for_each f i (suc k) a w s = next (f i a w s) (for_each f (suc i) k)
-
--- what a building function left in the words, and the node and store that it answered
-abbrev pub outcome : List ℕ → Built → Outcome ℕ
-outcome w r = record { words = w; store = r.store; answer = r.node }

@@ -1,24 +1,21 @@
 -- 01, 'Conditions': Ite, and Not, And, Or by it.
-use Rattle.std.specs.Prelude.{Bool, cond, ℕ, zero, suc, ◌+◌, eqb}
+use Rattle.std.specs.Prelude.{Bool, cond, ℕ, zero, suc, ◌+◌, eqb, Option, Some, None}
 use Rattle.diagrams.specs.declared.Parts.{Parts}
-use Rattle.operations.specs.declared.Store.{Store}
-use Rattle.operations.specs.declared.Plain.{Plain}
-use Rattle.operations.specs.declared.Plain.TheVariants.{Done, Split}
-use Rattle.operations.specs.Build.{Outcome, Build, pure, next, ◌>>=◌}
+use Rattle.operations.specs.Build.{Build, pure, ◌>>=◌}
 use Rattle.operations.specs.Make.{Make}
 -- "v is the least top variable of the three", and the parts of the three at it
 pub use Rattle.diagrams.specs.Parts.{least_of, parts_of}
 unfoldable pub use Rattle.diagrams.specs.Parts.{part_of}
 
 -- "Ite(f,g,h), first rule that fits: f is 1: g; f is 0: h; g=h: g; g=1 and h=0: f; else" by the parts. A full store answers 0.
-unfoldable pub plain_of : Bool → ℕ → ℕ → ℕ → Plain
+unfoldable pub plain_of : Bool → ℕ → ℕ → ℕ → Option ℕ
 plain_of full f g h =
-    cond full (Done 0)
-    (cond (eqb f 1) (Done g)
-    (cond (eqb f 0) (Done h)
-    (cond (eqb g h) (Done g)
-    (cond (eqb g 1) (cond (eqb h 0) (Done f) Split)
-    Split))))
+    cond full (Some 0)
+    (cond (eqb f 1) (Some g)
+    (cond (eqb f 0) (Some h)
+    (cond (eqb g h) (Some g)
+    (cond (eqb g 1) (cond (eqb h 0) (Some f) None)
+    None))))
 
 -- "Ite of their low parts, then Ite of their high parts, then Make of v and the two", by a function for the parts
 abbrev pub by_parts : (ℕ → ℕ → ℕ → Build ℕ) → Parts → Build ℕ
@@ -27,9 +24,9 @@ by_parts rec d = do
   y ← rec d.f1 d.g1 d.h1
   Make d.v x y
 
-unfoldable pub ite_by : (ℕ → ℕ → ℕ → Build ℕ) → Plain → ℕ → ℕ → ℕ → Build ℕ
-ite_by rec (Done n) f g h w s = pure n w s
-ite_by rec Split f g h w s = by_parts rec (parts_of w f g h) w s
+unfoldable pub ite_by : (ℕ → ℕ → ℕ → Build ℕ) → Option ℕ → ℕ → ℕ → ℕ → Build ℕ
+ite_by rec (Some n) f g h w s = pure n w s
+ite_by rec None f g h w s = by_parts rec (parts_of w f g h) w s
 
 -- Ite in so many steps at most
 unfoldable pub ite_up_to : ℕ → ℕ → ℕ → ℕ → Build ℕ

@@ -1,8 +1,7 @@
 -- 01, 'Conditions': Make.
-use Rattle.std.specs.Prelude.{true, false, cond, List, ℕ, ◌+◌, eqb, ltb}
+use Rattle.std.specs.Prelude.{true, false, cond, ℕ, ◌+◌, eqb, ltb}
 use Rattle.nodes.specs.Words.{with_node, capacity_of}
 use Rattle.nodes.specs.Standard.{lowest}
-use Rattle.operations.specs.declared.Store.{Store}
 use Rattle.operations.specs.Build.{Build, pure}
 
 -- "a new node at the count"

@@ -2,7 +2,7 @@
 -- The expected words are those of a program by truth tables, written from 01 alone, and not of these definitions.
 use Rattle.std.specs.Prelude.{◌≡◌, true, false, List, [], ◌∷◌, ◌++◌, ℕ, ◌-◌, ◌/◌, length, replicate}
 use Rattle.operations.specs.declared.Store.{Store}
-use Rattle.operations.specs.Build.{Outcome, Build}
+use Rattle.operations.specs.Build.{Build}
 use Rattle.operations.specs.Ite.{And}
 use Rattle.operations.specs.Any.{Any}
 

@@ -1,5 +1,5 @@
 -- 01, row 5: "an access's or Ite's node not below the count or on an index variable".
-use Rattle.std.specs.Prelude.{Bool, true, false, cond, List, ℕ, ltb, leb}
+use Rattle.std.specs.Prelude.{Bool, false, cond, List, ℕ, ltb, leb}
 use Rattle.nodes.specs.Words.{var_at}
 
 -- a node that an argument may name: below the count, and on a variable from 8 up. A node above has no index variable below it, by the order

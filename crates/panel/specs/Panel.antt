@@ -2,7 +2,7 @@
 --
 -- What is not said here, in one line each. That a function meets its contract is `statement`; what that means for a machine is the toolchain's. `memcase` hands standard input to `print_case` and its text to standard output,
 -- by calls of the system. The functions for C have contracts of their own, over the same definitions (`record_words`, `formula_words`, `capi_nodes`, `capi`, `capi_cases`).
-use Rattle.std.specs.Prelude.{◌≡◌, ◌↔◌, List, [], ◌∷◌, ℕ, ◌^◌, ◌<◌}
+use Rattle.std.specs.Prelude.{◌≡◌, ◌↔◌, Bool, List, [], ◌∷◌, ℕ, ◌^◌, ◌<◌, Option, Result}
 use contract.Lifetimes.{Lfts}
 use Rattle.std.specs.Borrow.{Bor, MutBor}
 use Rattle.conditions.specs.Stores.{Standard}
@@ -29,17 +29,13 @@ use Rattle.format.specs.Sections.{record_in}
 use Rattle.cases.specs.Case.{Case, accepts}
 use Rattle.cases.specs.Claims.{calls_in, state_in, CaseExact, count_in}
 use Rattle.memory.specs.declared.Record.{Record as Memory}
-use Rattle.memory.specs.declared.FreshResult.{FreshResult}
-use Rattle.memory.specs.declared.WriteResult.{WriteResult}
-use Rattle.memory.specs.declared.ReadResult.{ReadResult}
-use Rattle.memory.specs.declared.AssertResult.{AssertResult}
-use Rattle.memory.specs.declared.CheckResult.{CheckResult}
-use Rattle.memory.specs.declared.NodeResult.{NodeResult}
-use Rattle.memory.specs.declared.ValueResult.{ValueResult}
+use Rattle.memory.specs.declared.Called.{Called}
 use Rattle.memory.specs.Contract.{state_of, fresh_answer, write_answer, read_answer, assert_answer, check_answer, node_answer, value_answer}
 use Rattle.model.specs.declared.ControlNode.{ControlNode}
 use Rattle.formula_record.specs.declared.FormulaResult.{FormulaResult}
-use Rattle.casefile.specs.declared.CaseAnswer.{CaseAnswer}
+use Rattle.casefile.specs.declared.CaseDone.{CaseDone}
+use Rattle.casefile.specs.declared.CaseRefused.{CaseRefused}
+use Rattle.assert_access.specs.declared.Asserted.{Asserted}
 use Rattle.casefile.specs.Contract.{case_as}
 use Rattle.memory.proofs.Record.fresh.Statement as fresh
 use Rattle.memory.proofs.Record.evaluate.Statement as evaluate
@@ -108,28 +104,28 @@ formula_link k text table out r t out' = formula (record { making = k; text = te
 
 -- A call of the library that ran in a state: what its contract (`Post`) says of what it was lent, what it answered and what it left. What it was not lent stays.
 pub data Ran : State → AnyLink → Type 0 where
-  evaluates : (κs : Lfts 1) (self : Memory) (words : Lent) (f a : ℕ) (r : ValueResult) (list ports : List ℕ)
+  evaluates : (κs : Lfts 1) (self : Memory) (words : Lent) (f a : ℕ) (r : Called Bool) (list ports : List ℕ)
       → Evaluate.Post κs (self, (words, (f, (a, tt)))) r (self, (words, (f, (a, tt))))
       → Ran (state_of self words.now list ports) (link (node_call (model.evaluate f a)) (value_answer r.answer) (state_of r.after words.now list ports))
-  gives : (κs : Lfts 1) (self : Memory) (words : Changed) (v : ℕ) (r : NodeResult) (words' : Changed) (list ports : List ℕ)
+  gives : (κs : Lfts 1) (self : Memory) (words : Changed) (v : ℕ) (r : Called ℕ) (words' : Changed) (list ports : List ℕ)
       → Variable.Post κs (self, (words, (v, tt))) r (self, (words', (v, tt)))
       → Ran (state_of self words.now list ports) (link (node_call (model.variable v)) (node_answer r.answer) (state_of r.after words'.now list ports))
-  builds : (κs : Lfts 1) (self : Memory) (words : Changed) (f g h : ℕ) (r : NodeResult) (words' : Changed) (list ports : List ℕ)
+  builds : (κs : Lfts 1) (self : Memory) (words : Changed) (f g h : ℕ) (r : Called ℕ) (words' : Changed) (list ports : List ℕ)
       → Ite.Post κs (self, (words, (f, (g, (h, tt))))) r (self, (words', (f, (g, (h, tt)))))
       → Ran (state_of self words.now list ports) (link (node_call (model.ite f g h)) (node_answer r.answer) (state_of r.after words'.now list ports))
-  writes : (κs : Lfts 5) (self : Memory) (words list : Changed) (enable address «data» : Lent) (r : WriteResult) (words' list' : Changed) (ports : List ℕ)
+  writes : (κs : Lfts 5) (self : Memory) (words list : Changed) (enable address «data» : Lent) (r : Called (Option ℕ)) (words' list' : Changed) (ports : List ℕ)
       → Write.Post κs (self, (words, (list, (enable, (address, («data», tt)))))) r (self, (words', (list', (enable, (address, («data», tt))))))
       → Ran (state_of self words.now list.now ports)
       (link (access (model.write enable.now address.now «data».now)) (write_answer r.answer) (state_of r.after words'.now list'.now ports))
-  reads : (κs : Lfts 6) (self : Memory) (words : Changed) (list : Lent) (ports : Changed) (port : ℕ) (enable address : Lent) (out : Changed) (r : ReadResult) (words' ports' out' : Changed)
+  reads : (κs : Lfts 6) (self : Memory) (words : Changed) (list : Lent) (ports : Changed) (port : ℕ) (enable address : Lent) (out : Changed) (r : Called (Unit {0})) (words' ports' out' : Changed)
       → Read.Post κs (self, (words, (list, (ports, (port, (enable, (address, (out, tt)))))))) r (self, (words', (list, (ports', (port, (enable, (address, (out', tt))))))))
       → Ran (state_of self words.now list.now ports.now)
       (link (access (model.read port enable.now address.now out.now)) (read_answer r.answer out'.now) (state_of r.after words'.now list.now ports'.now))
-  asserts : (κs : Lfts 4) (self : Memory) (words list : Changed) (b : ControlNode) (address «data» : Lent) (r : AssertResult) (words' list' : Changed) (ports : List ℕ)
+  asserts : (κs : Lfts 4) (self : Memory) (words list : Changed) (b : ControlNode) (address «data» : Lent) (r : Called Asserted) (words' list' : Changed) (ports : List ℕ)
       → Assert.Post κs (self, (words, (list, (b, (address, («data», tt)))))) r (self, (words', (list', (b, (address, («data», tt))))))
       → Ran (state_of self words.now list.now ports)
       (link (access (model.assert b.0 address.now «data».now)) (assert_answer r.answer) (state_of r.after words'.now list'.now ports))
-  checks : (κs : Lfts 4) (self : Memory) (words : Changed) (list : Lent) (b : ControlNode) (address «data» : Lent) (r : CheckResult) (words' : Changed) (ports : List ℕ)
+  checks : (κs : Lfts 4) (self : Memory) (words : Changed) (list : Lent) (b : ControlNode) (address «data» : Lent) (r : Called (Unit {0})) (words' : Changed) (ports : List ℕ)
       → Check.Post κs (self, (words, (list, (b, (address, («data», tt)))))) r (self, (words', (list, (b, (address, («data», tt))))))
       → Ran (state_of self words.now list.now ports)
       (link (access (model.check b.0 address.now «data».now)) (check_answer r.answer) (state_of r.after words'.now list.now ports))
@@ -147,13 +143,13 @@ AllRan s (k ∷ ks) = Ran s k × AllRan (after_link k) ks
 
 -- "The first gets the record and node words that an accepted Fresh left, and a list of any words, for any n, w and sizes"
 pub data Begun : Sizes → State → Type 0 where
-  begins : (κs : Lfts 2) (self : Memory) (words ports : Changed) (z : Sizes) (r : FreshResult) (words' ports' : Changed) (list : List ℕ)
+  begins : (κs : Lfts 2) (self : Memory) (words ports : Changed) (z : Sizes) (r : Called (Unit {0})) (words' ports' : Changed) (list : List ℕ)
       → Fresh.Post κs (self, (words, (ports, (z, tt)))) r (self, (words', (ports', (z, tt)))) → fresh_answer r.answer ≡ model.done model.accepted
       → Begun z (state_of r.after words'.now list ports'.now)
 
 -- A case that ran: the file, what was lent for node words, list and text, and what the call answered and left
 pub data CaseRan : List ℕ → List ℕ → List ℕ → List ℕ → Case → Type 0 where
-  runs : (κs : Lfts 4) (file : Lent) (words list text : Changed) (r : CaseAnswer) (words' list' text' : Changed)
+  runs : (κs : Lfts 4) (file : Lent) (words list text : Changed) (r : Result CaseDone CaseRefused) (words' list' text' : Changed)
       → RunCase.Post κs (file, (words, (list, (text, tt)))) r (file, (words', (list', (text', tt))))
       → CaseRan file.now words.now list.now text.now (case_as r words'.now list'.now text'.now)
 
@@ -161,7 +157,7 @@ pub data CaseRan : List ℕ → List ℕ → List ℕ → List ℕ → Case → 
 -- refused call returns its row's number and leaves those words as 01 says": where each row is met, as facts in the papers' own numerals, and what is then left; and of Fresh
 pub record Demand1 : Type 0 where
   pub each-call : (s : State) (k : AnyLink) → Ran s k → AnswersLink s k
-  pub answer-words : (κs : Lfts 6) (self : Memory) (words : Changed) (list : Lent) (ports : Changed) (port : ℕ) (enable address : Lent) (out : Changed) (r : ReadResult) (words' ports' out' : Changed)
+  pub answer-words : (κs : Lfts 6) (self : Memory) (words : Changed) (list : Lent) (ports : Changed) (port : ℕ) (enable address : Lent) (out : Changed) (r : Called (Unit {0})) (words' ports' out' : Changed)
       → Read.Post κs (self, (words, (list, (ports, (port, (enable, (address, (out, tt)))))))) r (self, (words', (list, (ports', (port, (enable, (address, (out', tt))))))))
       → out'.now ≡ answer_words (read_answer r.answer out'.now) out.now
   pub accepted : AcceptedExactly

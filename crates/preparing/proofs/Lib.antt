@@ -1,4 +1,4 @@
+pub mod TripleLaws
 pub mod StepLaws
 pub mod PassLaws
-pub mod TripleLaws
 pub mod PrepareLaws

@@ -1,13 +1,10 @@
 -- A formula before its accesses: what each walk and each test comes to.
-use mathlib.Core.Path.{◌≡◌, refl, sym, ap, ap₂, subst, subst₂, ◌∙◌}
-use mathlib.Core.Bool.{Bool, true, false, cond}
-use mathlib.Core.List.{List, [], ◌∷◌}
-use Prim.Native.Nat.{ℕ, suc, ◌+◌, ◌*◌, ◌-◌, ◌/◌, ◌<◌, ◌≤◌}
+use Rattle.std.proofs.Common.{◌≡◌, ℕ, suc, ◌+◌, ◌*◌, ◌-◌, ◌/◌, ◌<◌, ◌≤◌, Bool, true, false, cond, List, [], ◌∷◌, length, get_or, drop, Result as RustResult, Ok, Err, IsOk, refl, sym, ap, ap₂, subst, subst₂, ◌∙◌, arith, length-drop, ne_eqb}
 use native.Mathlib.Nat.{suc-mul}
-use native.Mathlib.Omega.{arith}
-use lib.Dec.{T}
-use lib.ListN.{length, get_or, drop, length-drop}
-use borrow.Author.Tests.{le-leb, lt-leb, ne_eqb}
+use borrow.Author.Tests.{le-leb, lt-leb}
+use Rattle.refusals.specs.declared.Refusal.{Refusal}
+use Rattle.refusals.specs.declared.Refusal.TheVariants.{StoreFull}
+use Rattle.refusals.specs.Refusal.{number}
 use Rattle.formulas.specs.Language.{Tree, predicate, listed, only, Below}
 use Rattle.formulas.specs.Reading.{Limits, Verdict, fine, wrong, judge_text}
 use Rattle.formulas.specs.Claims.{numbers, Decided, is_read, is-refused}
@@ -16,6 +13,7 @@ use Rattle.formulas.proofs.OrderLaws.{by_step-length}
 use Rattle.conditions.specs.Stores.{Standard, Extends}
 use Rattle.conditions.specs.Build.{Store, Outcome, pure}
 use Rattle.conditions.specs.Contract.{Sound}
+use Rattle.conditions.specs.declared.builder.Builder.{Builder}
 use Rattle.conditions.proofs.Promises.{extends_refl, builds_clear}
 use Rattle.model.specs.Record.{with_count}
 use Rattle.model.specs.Formula.{Triple, Triples}
@@ -34,8 +32,9 @@ use Rattle.formula_calls.proofs.FoundLaws.{memory-told, named-arrows, conditions
 use Rattle.formula_calls.proofs.RowLaws.{formula_rows}
 use Rattle.formula_calls.proofs.WordLaws.{words_long}
 use Rattle.model.specs.declared.Fields.{Fields}
-use Rattle.rows.specs.Contract.{state_of, cleared_where}
+use Rattle.rows.specs.Contract.{state_of, Cleared}
 use Rattle.rows.proofs.CallLaws.{node_acted, nine_acts, done_acts, left_by, not_full, valid_rows}
+use Rattle.tokens.specs.declared.Fault.{Fault}
 use Rattle.formula_walk.specs.declared.Pass.TheVariants.{Count}
 use Rattle.formula_walk.specs.declared.Plan.{Plan}
 use Rattle.formula_walk.specs.declared.Walk.{Walk}
@@ -43,7 +42,7 @@ use Rattle.formula_walk.specs.Contract.{out_of, put_all, Seen, listed_as, predic
 use Rattle.formula_walk.proofs.WalkLaws.{limits-same}
 use Rattle.making.specs.Contract.{triples_from}
 use Rattle.preparing.specs.Contract.{step_of, Built, MayList, ListedAs, Prepares, comes_to, ListedIn}
-use Rattle.preparing.proofs.PassLaws.{listing}
+use Rattle.preparing.proofs.PassLaws.{listing, came-ok}
 use Rattle.preparing.proofs.TripleLaws.{Each, each_in-order, Good, triples_good, good-below, triples-many, listed-many, words-triples, each_at}
 
 -- the predicates of the table
@@ -55,12 +54,12 @@ abbrev pub counting : ℕ → ℕ → Plan
 counting predicates count = record { pass = Count; predicates = predicates; count = count }
 
 -- a walk that no row stopped has counted
-pub record Counted (text w out : List ℕ) (s : Store) (l : Limits) (w' out' : List ℕ) (x : Walk) : Type 0 where
+pub record Counted (text : List ℕ) (b : Builder) (out : List ℕ) (l : Limits) (b' : Builder) (out' : List ℕ) (x : Walk) : Type 0 where
   pub tree : Tree
   pub is : judge_text l text ≡ fine tree []
-  pub same : w' ≡ w
+  pub same : b'.words.now ≡ b.words.now
   pub same_out : out' ≡ out
-  pub same_store : x.store ≡ s
+  pub same_store : b'.store ≡ b.store
   pub many : x.listed ≡ predicates_of tree
 
 -- the tree of a verdict, and what is left
@@ -79,29 +78,29 @@ read_whole l text t r e = go ((reads l).decided text)
     go (is_read u f) = e ∙ ap (fine t) (ap left_of (sym e ∙ f))
     go (is-refused k x f) = absurd (subst is_fine (sym e ∙ f) tt)
 
-module _ {text w out w' t' out' : List ℕ} {predicates count : ℕ} {s : Store} {x : Walk} (W : Walked (counting predicates count) text w out 0 s w' t' out' x) where
+module _ {text : List ℕ} {b : Builder} {out : List ℕ} {b' : Builder} {out' : List ℕ} {predicates count : ℕ} where
   -- one that a row stopped has touched nothing
-  pub counted-stopped : (x.row ≡ 0 → ⊥) → (judge_text (limits (counting predicates count) w) text ≡ wrong x.row (drop x.at text)) × (w' ≡ w) × (out' ≡ out)
-  counted-stopped n = go (judge_text (limits (counting predicates count) w) text) W.came
+  pub counted-stopped : {f : Fault} → Walked (counting predicates count) text b out 0 b' out' (Err f) → (judge_text (limits (counting predicates count) b.words.now) text ≡ wrong (number f.refusal) (drop f.at text)) × (b'.words.now ≡ b.words.now) × (out' ≡ out)
+  counted-stopped {f} W = go (judge_text (limits (counting predicates count) b.words.now) text) W.came
     where
-      go : (v : Verdict) → Came (counting predicates count) outermost text w out (begun 0 s) v w' out' x → (v ≡ wrong x.row (drop x.at text)) × (w' ≡ w) × (out' ≡ out)
-      go (fine t r) C = absurd (n C.0)
-      go (wrong k y) C = (ap₂ wrong (sym C.0) (sym C.1), C.3.0, C.3.1)
+      go : (v : Verdict) → Came (counting predicates count) outermost text b out (begun 0) v b' out' (Err f) → (v ≡ wrong (number f.refusal) (drop f.at text)) × (b'.words.now ≡ b.words.now) × (out' ≡ out)
+      go (fine t r) C = absurd C
+      go (wrong k y) C = (ap₂ wrong (sym C.0) (sym C.1), C.2.0, C.2.1)
 
-  pub counted : x.row ≡ 0 → Counted text w out s (limits (counting predicates count) w) w' out' x
-  counted z = go (judge_text (limits (counting predicates count) w) text) refl W.came
+  pub counted : {x : Walk} → Walked (counting predicates count) text b out 0 b' out' (Ok x) → Counted text b out (limits (counting predicates count) b.words.now) b' out' x
+  counted {x} W = go (judge_text (limits (counting predicates count) b.words.now) text) refl W.came
     where
-      go : (v : Verdict) → judge_text (limits (counting predicates count) w) text ≡ v → Came (counting predicates count) outermost text w out (begun 0 s) v w' out' x → Counted text w out s (limits (counting predicates count) w) w' out' x
+      go : (v : Verdict) → judge_text (limits (counting predicates count) b.words.now) text ≡ v → Came (counting predicates count) outermost text b out (begun 0) v b' out' (Ok x) → Counted text b out (limits (counting predicates count) b.words.now) b' out' x
       go (fine t r) e C =
           record {
             tree = t;
-            is = read_whole (limits (counting predicates count) w) text t r e;
-            same = ap (λ (y : Seen). y.words) C.2;
-            same_out = ap (λ (y : Seen). y.out.words) C.2;
-            same_store = ap (λ (y : Seen). y.store) C.2;
-            many = ap (λ (y : Seen). y.out.listed) C.2 ∙ (let e : 0 + predicates_of t ≡ predicates_of t = omega arith in e);
+            is = read_whole (limits (counting predicates count) b.words.now) text t r e;
+            same = ap (λ (y : Seen). y.words) C.1;
+            same_out = ap (λ (y : Seen). y.out.words) C.1;
+            same_store = ap (λ (y : Seen). y.store) C.1;
+            many = ap (λ (y : Seen). y.out.listed) C.1 ∙ (let e : 0 + predicates_of t ≡ predicates_of t = omega arith in e);
           }
-      go (wrong k y) e C = absurd (omega (arith, C.0, C.2, z))
+      go (wrong k y) e C = absurd C
 
 -- What the call comes to: at a fault of the text
 module _ (k : Making) (r : Fields) (w l text predicates out : List ℕ) where
@@ -134,6 +133,18 @@ one-built : {text w : List ℕ} {predicates count : ℕ} {s : Store} (A B : Buil
 one-built {text} {w} {predicates} {count} {s} A B =
     ap (λ (x : Outcome (List Triple)). x.answer) (sym A.again ∙ ap (λ (t : Tree). Triples 0 1 t w s) (ap tree_of (sym A.read ∙ B.read)) ∙ B.again)
 
+-- it is built in a store of the same words
+abbrev built_here : {text w v : List ℕ} {predicates count : ℕ} {s u : Store} → v ≡ w → u ≡ s → Built text w predicates count s → Built text v predicates count u
+built_here {text} {w} {v} {predicates} {count} {s} {u} e f B =
+    record {
+      tree = B.tree;
+      rest = B.rest;
+      read = ap (λ (v : List ℕ). judge_text (limits (counting predicates count) v) text) e ∙ B.read;
+      triples = B.triples;
+      again = ap₂ (λ (v : List ℕ) (u : Store). Triples 0 1 B.tree v u) e f ∙ B.again ∙ ap₂ (λ (v : List ℕ) (u : Store). pure B.triples v u) (sym e) (sym f);
+      steps = B.steps;
+    }
+
 -- a predicate that is good stands in the table
 in_table : (r : Fields) (w predicates : List ℕ) (p : ℕ) → 1 ≤ r.sizes.n → (limits_of (state_of r w []) predicates).predicates p ≡ true → p * predicate_words r + predicate_words r ≤ length predicates
 unfolding FormulaRows
@@ -147,6 +158,11 @@ in_table r w predicates p n g =
 only_none : (n : ℕ) (xs : List Triple) → Below step_of n xs → only step_of n xs ≡ []
 only_none n [] B = refl
 only_none n (x ∷ xs) B = ap (λ (b : Bool). cond b (x ∷ only step_of n xs) (only step_of n xs)) (ne_eqb x.step n (λ e. omega (arith, e, B.0))) ∙ only_none n xs B.1
+
+-- the walk that builds the conditions left this store
+pub record BuiltBy (r : Fields) (w out : List ℕ) (t : Tree) (b : Builder) (out₁ : List ℕ) (y : Walk) : Type 0 where
+  pub extends : Extends w r.count b.words.now b.store.count
+  pub seen : seen_at y b out₁ ≡ listed_as 33 (Triples 0 1 t w (begin r)) (out_of out 0)
 
 -- The conditions: a text that is read, and the walk that builds them
 module _ (r : Fields) (text w predicates out : List ℕ) (S : Standard w r.count) (t : Tree) (R : judge_text (limits (counting (known r predicates) r.count) w) text ≡ fine t []) where
@@ -165,97 +181,95 @@ module _ (r : Fields) (text w predicates out : List ℕ) (S : Standard w r.count
   arrows : EachArrow (Names r w) t
   arrows = named-arrows predicates (state_of r w []) t named
 
-  module _ {w₁ t₁ out₁ : List ℕ} {y : Walk} (W : Walked (listing 33 (known r predicates) r.count) text w out 0 (begin r) w₁ t₁ out₁ y) where
-    seen-built : seen_at y w₁ out₁ ≡ listed_as 33 program (out_of out 0)
-    seen-built = (subst (λ (v : Verdict). Came (listing 33 (known r predicates) r.count) outermost text w out (begun 0 (begin r)) v w₁ out₁ y) R W.came).2
+  conditions_act : (l : List ℕ) → Valid (state_of r w l) → step (node_call (conditions t)) (state_of r w l) ≡ closed (state_of r w l) (finish_node (conditions t) (state_of r w l))
+  conditions_act l K =
+      node_acted (conditions t) (state_of r w l)
+      (sym ((call-told (node_call (conditions t)) (state_of r w l)).all (conditions-facts text predicates (state_of r w l) t ((memory-told (state_of r w l)).none (valid_rows (state_of r w l) K [])) R)))
 
-    built_is : ◌≡◌ {A = Outcome (List Triple)} (record { words = w₁; store = y.store; answer = program.answer }) program
-    built_is = ap (λ (x : Seen). record { words = x.words; store = x.store; answer = program.answer }) seen-built
+  module _ {b : Builder} {out₁ : List ℕ} {y : Walk} (W : BuiltBy r w out t b out₁ y) where
+    built_is : ◌≡◌ {A = Outcome (List Triple)} (record { words = b.words.now; store = b.store; answer = program.answer }) program
+    built_is = ap (λ (x : Seen). record { words = x.words; store = x.store; answer = program.answer }) W.seen
 
     -- this walk writes nothing
     pub built_out : out₁ ≡ out
-    built_out = ap (λ (x : Seen). x.out.words) seen-built ∙ ap (λ (ts : List Triple). (put_all ts (out_of out 0)).words) (only_none 33 program.answer steps-below)
+    built_out = ap (λ (x : Seen). x.out.words) W.seen ∙ ap (λ (ts : List Triple). (put_all ts (out_of out 0)).words) (only_none 33 program.answer steps-below)
 
-    module _ {w₂ : List ℕ} {b : Bool} (o : (w₂, b) ≡ cleared_where w₁ r.count y.store.full) where
+    -- the store is full
+    module _ {w₂ : List ℕ} {k : Refusal} (o : Cleared b.words.now r.count b.store.full StoreFull w₂ (Err k)) (l : List ℕ) (K : Valid (state_of r w l)) where
+      conditions-full : step (node_call (conditions t)) (state_of r w l) ≡ record { answer = refused (number k); after = state_of r w₂ l }
+      unfolding finish_node
+      conditions-full = conditions_act l K ∙ nine_acts (state_of r w l) program _ built_is (builds_clear (formula-builds r w S t arrows)) o
+
+      -- 9 of the conditions
+      pub comes-nine : (m : Making) → predicates_of t ≤ length out / 3 → comes_to m r w l text predicates out ≡ refused_itself (refused_by (number k)) (state_of r w₂ l) out
+      comes-nine m h = comes_on m r w l text predicates out t R h ∙ ap (λ (x : Result). after_building m r predicates out x.answer x.after) conditions-full
+
+    -- it is not
+    module _ {w₂ : List ℕ} {u : Unit {0}} (o : Cleared b.words.now r.count b.store.full StoreFull w₂ (Ok u)) where
       -- built again, they build nothing
-      later : y.store.full ≡ false → LaterThan program w₁ y.store
-      later f = record { standard = W.sound.standard; extends = subst (λ (x : Outcome (List Triple)). Extends x.words x.store.count w₁ y.store.count) built_is (extends_refl w₁ y.store.count); free = f }
+      later : b.store.full ≡ false → LaterThan program b.words.now b.store
+      later f = record { standard = b.sound.standard; extends = subst (λ (x : Outcome (List Triple)). Extends x.words x.store.count b.words.now b.store.count) built_is (extends_refl b.words.now b.store.count); free = f }
 
-      formula-built : b ≡ false → Built text w₂ (known r predicates) r.count y.store
-      formula-built e =
-          let L = left_by w₁ r.count y.store.full o e in
+      formula-built : Built text w₂ (known r predicates) r.count b.store
+      formula-built =
+          let L = left_by o in
           let f : program.store.full ≡ false = ap (λ (x : Outcome (List Triple)). x.store.full) (sym built_is) ∙ L.1 in
           let A = each_arrow {Q = λ b. b < r.count} (λ b N. N.below) t arrows in
           record {
             tree = t;
             rest = [];
-            read = ap (λ (v : List ℕ). judge_text (limits (counting (known r predicates) r.count) v) text) L.0 ∙ ap (λ (x : Limits). judge_text x text) (limits-same (counting (known r predicates) r.count) w w₁ r.count y.store.count (omega arith) W.extends) ∙ R;
+            read = ap (λ (v : List ℕ). judge_text (limits (counting (known r predicates) r.count) v) text) L.0 ∙ ap (λ (x : Limits). judge_text x text) (limits-same (counting (known r predicates) r.count) w b.words.now r.count b.store.count (omega arith) W.extends) ∙ R;
             triples = program.answer;
-            again = subst (λ (v : List ℕ). Triples 0 1 t v y.store ≡ pure program.answer v y.store) (sym L.0) (triples-again 0 1 t w (begin r) S (omega (arith, S.two)) A f w₁ y.store (later L.1));
+            again = subst (λ (v : List ℕ). Triples 0 1 t v b.store ≡ pure program.answer v b.store) (sym L.0) (triples-again 0 1 t w (begin r) S (omega (arith, S.two)) A f b.words.now b.store (later L.1));
             steps = steps-below;
           }
 
-      pub may-list : b ≡ false → (listed : ℕ) → listed ≡ predicates_of t → listed ≤ length out / 3 → MayList text w₂ t₁ out₁ (known r predicates) r.count y.store listed
-      unfolding formula-built
-      may-list e listed m h =
-          let L = left_by w₁ r.count y.store.full o e in
-          record {
-            sound = subst (λ (v : List ℕ). Sound v t₁ y.store) (sym L.0) W.sound;
-            two = S.two;
-            older = W.extends.more;
-            built = formula-built e;
-            many = m ∙ sym (triples-many 0 1 t w (begin r));
-            fits = let z = ap (length {A = ℕ}) built_out in omega (arith, h, z);
-          }
+      conditions-built : (l : List ℕ) → Valid (state_of r w l) → step (node_call (conditions t)) (state_of r w l) ≡ record { answer = done (triples program.answer); after = state_of (with_count r b.store.count) w₂ l }
+      unfolding finish_node closed
+      conditions-built l K = conditions_act l K ∙ done_acts (state_of r w l) program _ built_is o
 
-      -- on any list
-      module _ (l : List ℕ) (K : Valid (state_of r w l)) where
-        conditions_act : step (node_call (conditions t)) (state_of r w l) ≡ closed (state_of r w l) (finish_node (conditions t) (state_of r w l))
-        conditions_act =
-            node_acted (conditions t) (state_of r w l) refl
-            ((call-told (node_call (conditions t)) (state_of r w l)).all (conditions-facts text predicates (state_of r w l) t ((memory-told (state_of r w l)).none (valid_rows (state_of r w l) K [])) R))
+      comes-listed : (l : List ℕ) → Valid (state_of r w l) → (k : Making) → predicates_of t ≤ length out / 3 → comes_to k r w l text predicates out ≡ make_listed k r predicates out (in_order program.answer) (state_of (with_count r b.store.count) w₂ l)
+      comes-listed l K k h = comes_on k r w l text predicates out t R h ∙ ap (λ (x : Result). after_building k r predicates out x.answer x.after) (conditions-built l K)
 
-        conditions-full : b ≡ true → step (node_call (conditions t)) (state_of r w l) ≡ record { answer = refused 9; after = state_of r w₂ l }
-        unfolding finish_node
-        conditions-full e = conditions_act ∙ nine_acts (state_of r w l) program _ built_is o (builds_clear (formula-builds r w S t arrows)) e
+      -- in a builder of the words that are left
+      module _ {c : Builder} (e : c.words.now ≡ w₂) (f : c.store ≡ b.store) where
+        pub may-list : (listed : ℕ) → listed ≡ predicates_of t → listed ≤ length out / 3 → MayList text c out₁ (known r predicates) r.count listed
+        unfolding formula-built
+        may-list listed m h =
+            let B = formula-built in
+            let older : r.count ≤ b.store.count = W.extends.more in
+            record {
+              two = S.two;
+              older = omega (arith, older, ap (λ (s : Store). s.count) f);
+              built = built_here e f B;
+              many = m ∙ sym (triples-many 0 1 t w (begin r));
+              fits = let z = ap (length {A = ℕ}) built_out in omega (arith, h, z);
+            }
 
-        conditions-built : b ≡ false → step (node_call (conditions t)) (state_of r w l) ≡ record { answer = done (triples program.answer); after = state_of (with_count r y.store.count) w₂ l }
-        unfolding finish_node closed
-        conditions-built e = conditions_act ∙ done_acts (state_of r w l) program _ built_is o e
-
-        -- 9 of the conditions
-        pub comes-nine : (k : Making) → predicates_of t ≤ length out / 3 → b ≡ true → comes_to k r w l text predicates out ≡ refused_itself (refused_by 9) (state_of r w₂ l) out
-        comes-nine k h e = comes_on k r w l text predicates out t R h ∙ ap (λ (x : Result). after_building k r predicates out x.answer x.after) (conditions-full e)
-
-        comes-listed : (k : Making) → predicates_of t ≤ length out / 3 → b ≡ false → comes_to k r w l text predicates out ≡ make_listed k r predicates out (in_order program.answer) (state_of (with_count r y.store.count) w₂ l)
-        comes-listed k h e = comes_on k r w l text predicates out t R h ∙ ap (λ (x : Result). after_building k r predicates out x.answer x.after) (conditions-built e)
-
-        -- all is written
-        pub listed_in : {w₃ t₃ out₃ : List ℕ} (listed : ℕ) → b ≡ false → listed ≡ predicates_of t → listed ≤ length out / 3 → ListedAs text w₂ out₁ (known r predicates) r.count y.store w₃ t₃ out₃
-            → ListedIn r w l text predicates out w₃ t₃ out₃ y.store.count listed
+        -- on any list, all is written
+        pub listed_in : {d : Builder} {out₃ : List ℕ} (listed : ℕ) → listed ≡ predicates_of t → listed ≤ length out / 3 → ListedAs text c out₁ (known r predicates) r.count d out₃ → (l : List ℕ) → Valid (state_of r w l)
+            → ListedIn r w l text predicates out d.words.now d.table.now out₃ b.store.count listed
         unfolding formula-built StaysValid
-        listed_in {w₃} {t₃} {out₃} listed e m h L =
+        listed_in {d} {out₃} listed m h L l K =
             let ts = program.answer in
             let os = in_order ts in
-            let q = one-built L.built (formula-built e) in
+            let q = one-built L.built (built_here e f formula-built) in
             let ws : out₃ ≡ listed_over os out = L.words ∙ ap₂ (λ (us : List Triple) (o : List ℕ). listed_over (in_order us) o) q built_out in
             let n : listed ≡ length os = m ∙ sym (triples-many 0 1 t w (begin r)) ∙ sym (by_step-length step_of ts) in
             let from : triples_from out₃ 0 listed ≡ os = ap₂ (λ (o : List ℕ) (k : ℕ). triples_from o 0 k) ws n ∙ words-triples os (drop (3 * length os) out) in
             let M = (memory-told (state_of r w l)).none (valid_rows (state_of r w l) K []) in
-            let valid = subst Valid (ap (λ (x : Result). x.after) (conditions-built e)) (stays-valid (node_call (conditions t)) (state_of r w l) K) in
-            let sound = not_full y.store (left_by w₁ r.count y.store.full o e).1 L.sound in
+            let same : d.words.now ≡ w₂ = L.same ∙ e in
+            let built = conditions-built l K in
+            let valid = subst Valid (ap (λ (x : Result). x.after) built) (stays-valid (node_call (conditions t)) (state_of r w l) K) in
+            let sound = not_full b.store (left_by o).1 (subst (λ (s : Store). Sound d.words.now d.table.now s) (L.store ∙ f) d.sound) in
             let long : length out₃ ≡ length out = ap (length {A = ℕ}) ws ∙ words_long os out (omega (arith, n, h)) in
             let each = subst (Each (Good (limits (counting (known r predicates) r.count) w) 32)) (sym from) (each_in-order (Good (limits (counting (known r predicates) r.count) w) 32) ts each_good) in
             record {
-              comes = λ k. comes-listed k (omega (arith, m, h)) e ∙ ap₂ (λ (us : List Triple) (v : List ℕ). make_listed k r predicates out us (state_of (with_count r y.store.count) v l)) (sym from) (sym L.same);
+              comes = λ k. comes-listed l K k (omega (arith, m, h)) ∙ ap₂ (λ (us : List Triple) (v : List ℕ). make_listed k r predicates out us (state_of (with_count r b.store.count) v l)) (sym from) (sym same);
               words = ws ∙ ap (λ (us : List Triple). listed_over us out) (sym from);
               may =
                   record {
-                    ready =
-                        record {
-                          valid = subst (λ (v : List ℕ). Valid (state_of (with_count r y.store.count) v l)) (sym L.same) valid;
-                          sound = subst (λ (v : List ℕ). Sound v t₃ (begin (with_count r y.store.count))) (sym L.same) sound;
-                        };
+                    ready = record { valid = subst (λ (v : List ℕ). Valid (state_of (with_count r b.store.count) v l)) (sym same) valid; sound = sound };
                     named = λ i j.
                         record {
                           few = M.0.n-most;
@@ -267,46 +281,62 @@ module _ (r : Fields) (text w predicates out : List ℕ) (S : Standard w r.count
             }
 
 -- `prepare`, from its first walk to its end
-module _ {r : Fields} {text w t out w₀ t₀ out₀ : List ℕ} {x : Walk} (predicates : List ℕ) (P : Prepares r w t) (X : Walked (counting (known r predicates) r.count) text w out 0 (begin r) w₀ t₀ out₀ x) where
-  pub prepared-faulty : (x.row ≡ 0 → ⊥) → (k : Making) (l : List ℕ) → Valid (state_of r w l) → comes_to k r w l text predicates out ≡ refused_itself (faulty x.row x.at) (state_of r w₀ l) out₀
-  prepared-faulty n k l K =
-      let C = counted-stopped X n in
-      comes-faulty k r w l text predicates out x.row x.at X.within C.0 ∙ ap₂ (λ (v o : List ℕ). refused_itself (faulty x.row x.at) (state_of r v l) o) (sym C.1) (sym C.2)
+module _ {r : Fields} {text : List ℕ} {b₀ b₁ : Builder} {t out out₀ : List ℕ} (predicates : List ℕ) (P : Prepares r b₀.words.now t) (s : b₀.store ≡ begin r) where
+  pub prepared-faulty : {f : Fault} → Walked (counting (known r predicates) r.count) text b₀ out 0 b₁ out₀ (Err f) → {v : List ℕ} → v ≡ b₁.words.now → (k : Making) (l : List ℕ) → Valid (state_of r b₀.words.now l) → comes_to k r b₀.words.now l text predicates out ≡ refused_itself (faulty (number f.refusal) f.at) (state_of r v l) out₀
+  prepared-faulty {f} X e k l K =
+      let C = counted-stopped X in
+      comes-faulty k r b₀.words.now l text predicates out (number f.refusal) f.at X.within C.0 ∙ ap₂ (λ (v o : List ℕ). refused_itself (faulty (number f.refusal) f.at) (state_of r v l) o) (sym (e ∙ C.1)) (sym C.2)
 
-  module _ (z : x.row ≡ 0) where
-    read : Counted text w out (begin r) (limits (counting (known r predicates) r.count) w) w₀ out₀ x
-    read = counted X z
+  module _ {x : Walk} (X : Walked (counting (known r predicates) r.count) text b₀ out 0 b₁ out₀ (Ok x)) where
+    read : Counted text b₀ out (limits (counting (known r predicates) r.count) b₀.words.now) b₁ out₀ x
+    read = counted X
 
     long : length out₀ ≡ length out
     long = ap (length {A = ℕ}) read.same_out
 
-    pub prepared-short : length out₀ / 3 < x.listed → (k : Making) (l : List ℕ) → Valid (state_of r w l) → comes_to k r w l text predicates out ≡ refused_itself (refused_by 13) (state_of r w₀ l) out₀
-    prepared-short h k l K =
+    pub prepared-short : length out₀ / 3 < x.listed → {v : List ℕ} → v ≡ b₁.words.now → (k : Making) (l : List ℕ) → Valid (state_of r b₀.words.now l) → comes_to k r b₀.words.now l text predicates out ≡ refused_itself (refused_by 13) (state_of r v l) out₀
+    prepared-short h e k l K =
         let m = read.many in
-        comes-short k r w l text predicates out read.tree read.is (omega (arith, h, m, long)) ∙ ap₂ (λ (v o : List ℕ). refused_itself (refused_by 13) (state_of r v l) o) (sym read.same) (sym read.same_out)
+        comes-short k r b₀.words.now l text predicates out read.tree read.is (omega (arith, h, m, long)) ∙ ap₂ (λ (v o : List ℕ). refused_itself (refused_by 13) (state_of r v l) o) (sym (e ∙ read.same)) (sym read.same_out)
 
-    pub may_build : MayWalk (listing 33 (known r predicates) r.count) w₀ t₀ 0 (begin r)
-    may_build = record { sound = subst (λ (s : Store). Sound w₀ t₀ s) read.same_store X.sound; two = P.standard.two; older = omega arith; counts = tt }
+    pub may_build : MayWalk (listing 33 (known r predicates) r.count) b₁ 0
+    may_build = record { two = P.standard.two; older = omega (arith, ap (λ (s : Store). s.count) (read.same_store ∙ s)); counts = tt }
 
-    module _ (h : x.listed ≤ length out₀ / 3) {w₁ t₁ out₁ : List ℕ} {y : Walk} (Y₀ : Walked (listing 33 (known r predicates) r.count) text w₀ out₀ 0 (begin r) w₁ t₁ out₁ y) where
-      Y : Walked (listing 33 (known r predicates) r.count) text w out 0 (begin r) w₁ t₁ out₁ y
-      Y = subst₂ (λ (v o : List ℕ). Walked (listing 33 (known r predicates) r.count) text v o 0 (begin r) w₁ t₁ out₁ y) read.same read.same_out Y₀
+    -- the text is read again
+    pub builds-read : {b₂ : Builder} {out₁ : List ℕ} {y : RustResult Walk Fault} → Walked (listing 33 (known r predicates) r.count) text b₁ out₀ 0 b₂ out₁ y → IsOk y
+    builds-read {b₂} {out₁} {y} Y =
+        came-ok (listing 33 (known r predicates) r.count) text b₁ out₀ 0 b₂ out₁ y (judge_text (limits (counting (known r predicates) r.count) b₁.words.now) text)
+        (ap (λ (v : List ℕ). judge_text (limits (counting (known r predicates) r.count) v) text) read.same ∙ read.is) Y.came
+
+    module _ (h : x.listed ≤ length out₀ / 3) {b₂ : Builder} {out₁ : List ℕ} {z : RustResult Walk Fault} {y : Walk} (Y : Walked (listing 33 (known r predicates) r.count) text b₁ out₀ 0 b₂ out₁ z) (ok : z ≡ Ok y) where
+      built : BuiltBy r b₀.words.now out read.tree b₂ out₁ y
+      built =
+          let W = subst (λ (z : RustResult Walk Fault). Walked (listing 33 (known r predicates) r.count) text b₁ out₀ 0 b₂ out₁ z) ok Y in
+          let e = ap (λ (v : List ℕ). judge_text (limits (counting (known r predicates) r.count) v) text) read.same ∙ read.is in
+          let C = subst (λ (v : Verdict). Came (listing 33 (known r predicates) r.count) outermost text b₁ out₀ (begun 0) v b₂ out₁ (Ok y)) e W.came in
+          let u = read.same_store ∙ s in
+          record {
+            extends = subst₂ (λ (v : List ℕ) (u : Store). Extends v u.count b₂.words.now b₂.store.count) read.same u Y.extends;
+            seen = C.1 ∙ ap₂ (λ (v : List ℕ) (u : Store). listed_as 33 (Triples 0 1 read.tree v u) (out_of out₀ 0)) read.same u ∙ ap (λ (o : List ℕ). listed_as 33 (Triples 0 1 read.tree b₀.words.now (begin r)) (out_of o 0)) read.same_out;
+          }
 
       fits : predicates_of read.tree ≤ length out / 3
       fits = let m = read.many in omega (arith, h, m, long)
 
-      pub may_clear : r.count * 3 ≤ length w₁
-      may_clear = omega (arith, Y.extends.more, Y.sound.standard.room)
+      pub may_clear : r.count * 3 ≤ length b₂.words.now
+      may_clear = omega (arith, built.extends.more, b₂.sound.standard.room)
 
-      module _ {w₂ : List ℕ} {b : Bool} (o : (w₂, b) ≡ cleared_where w₁ r.count y.store.full) where
-        pub prepared-nine : b ≡ true → (k : Making) (l : List ℕ) → Valid (state_of r w l) → comes_to k r w l text predicates out ≡ refused_itself (refused_by 9) (state_of r w₂ l) out₁
-        prepared-nine e k l K =
-            comes-nine r text w predicates out P.standard read.tree read.is Y o l K k fits e
-            ∙ ap (λ (v : List ℕ). refused_itself (refused_by 9) (state_of r w₂ l) v) (sym (built_out r text w predicates out P.standard read.tree read.is Y))
+      pub prepared-nine : {w₂ : List ℕ} {k : Refusal} → Cleared b₂.words.now r.count b₂.store.full StoreFull w₂ (Err k) → (m : Making) (l : List ℕ) → Valid (state_of r b₀.words.now l) → comes_to m r b₀.words.now l text predicates out ≡ refused_itself (refused_by (number k)) (state_of r w₂ l) out₁
+      prepared-nine {w₂} {k} o m l K =
+          comes-nine r text b₀.words.now predicates out P.standard read.tree read.is built o l K m fits
+          ∙ ap (λ (v : List ℕ). refused_itself (refused_by (number k)) (state_of r w₂ l) v) (sym (built_out r text b₀.words.now predicates out P.standard read.tree read.is built))
 
-        pub prepared-list : b ≡ false → MayList text w₂ t₁ out₁ (known r predicates) r.count y.store x.listed
-        prepared-list e = may-list r text w predicates out P.standard read.tree read.is Y o e x.listed read.many (omega (arith, h, long))
+      module _ {w₂ : List ℕ} {u : Unit {0}} (o : Cleared b₂.words.now r.count b₂.store.full StoreFull w₂ (Ok u)) {c : Builder} (e : c.words.now ≡ w₂) (f : c.store ≡ b₂.store) where
+        pub prepared-list : MayList text c out₁ (known r predicates) r.count x.listed
+        prepared-list = may-list r text b₀.words.now predicates out P.standard read.tree read.is built o e f x.listed read.many (omega (arith, h, long))
 
-        pub prepared-listed : {w₃ t₃ out₃ : List ℕ} → b ≡ false → ListedAs text w₂ out₁ (known r predicates) r.count y.store w₃ t₃ out₃ → (l : List ℕ) → Valid (state_of r w l)
-            → ListedIn r w l text predicates out w₃ t₃ out₃ y.store.count x.listed
-        prepared-listed e L l K = listed_in r text w predicates out P.standard read.tree read.is Y o l K x.listed e read.many (omega (arith, h, long)) L
+        pub prepared-listed : {d : Builder} {out₃ : List ℕ} → ListedAs text c out₁ (known r predicates) r.count d out₃ → {v m : List ℕ} → v ≡ d.words.now → m ≡ d.table.now → (l : List ℕ) → Valid (state_of r b₀.words.now l)
+            → ListedIn r b₀.words.now l text predicates out v m out₃ b₂.store.count x.listed
+        prepared-listed {d} {out₃} L p q l K =
+            subst₂ (λ (v m : List ℕ). ListedIn r b₀.words.now l text predicates out v m out₃ b₂.store.count x.listed) (sym p) (sym q)
+            (listed_in r text b₀.words.now predicates out P.standard read.tree read.is built o e f x.listed read.many (omega (arith, h, long)) L l K)

@@ -10,7 +10,7 @@ use lib.ListN.{length, take, drop, length-append, length-drop}
 use lib.Seq.{take_at, drop-append-add, drop-drop}
 use Rattle.formulas.specs.Language.{only, passes, Below}
 use Rattle.formulas.proofs.OrderLaws.{by_step-length, by_step-passes}
-use Rattle.model.specs.Formula.{Triple, Triples}
+use Rattle.model.specs.Formula.{Triple}
 use Rattle.formula_calls.specs.Call.{in_order, triple_words, listed_over}
 use Rattle.formula_walk.specs.Contract.{out_of, put, put_all}
 use Rattle.preparing.specs.Contract.{step_of}

@@ -1,11 +1,14 @@
 -- What comes of a written formula before its accesses.
-use Rattle.std.specs.Prelude.{◌≡◌, List, ℕ, ◌*◌, ◌≤◌, length}
+use Rattle.std.specs.Prelude.{◌≡◌, List, ℕ, ◌*◌, ◌≤◌, length, Result, Ok, Err}
 use Rattle.formulas.specs.Language.{Tree, Below}
 use Rattle.formulas.specs.Reading.{fine, judge_text}
 use Rattle.conditions.specs.Stores.{Standard}
 use Rattle.conditions.specs.User.{is_user}
 use Rattle.conditions.specs.Build.{Store, pure}
 use Rattle.conditions.specs.Contract.{Sound}
+use Rattle.conditions.specs.declared.builder.Builder.{Builder}
+use Rattle.conditions.specs.Builder.{Later}
+use Rattle.refusals.specs.Refusal.{number}
 use Rattle.model.specs.Record.{with_count}
 use Rattle.model.specs.Formula.{Triple, Triples}
 use Rattle.model.specs.Step.{begin}
@@ -16,8 +19,9 @@ use Rattle.formula_calls.specs.Call.{Making, limits_of, in_order, listed_over, r
 use Rattle.model.specs.declared.Fields.{Fields}
 use Rattle.rows.specs.Contract.{state_of}
 use Rattle.making.specs.Contract.{triples_from, MayMake}
-use Rattle.preparing.specs.declared.Prepared.{Prepared}
-use Rattle.preparing.specs.declared.Prepared.TheVariants as prepared
+use Rattle.preparing.specs.declared.Listed.{Listed}
+use Rattle.preparing.specs.declared.Unlisted.{Unlisted}
+use Rattle.preparing.specs.declared.Unlisted.TheVariants as unlisted
 
 -- the step of a triple
 abbrev pub step_of : Triple → ℕ
@@ -33,19 +37,19 @@ pub record Built (text w : List ℕ) (predicates count : ℕ) (s : Store) : Type
   pub steps : Below step_of 33 triples
 
 -- before its triples are written, one step after the other
-pub record MayList (text w t out : List ℕ) (predicates count : ℕ) (s : Store) (listed : ℕ) : Type 0 where
-  pub sound : Sound w t s
+pub record MayList (text : List ℕ) (b : Builder) (out : List ℕ) (predicates count listed : ℕ) : Type 0 where
   pub two : 2 ≤ count
-  pub older : count ≤ s.count
-  pub built : Built text w predicates count s
+  pub older : count ≤ b.store.count
+  pub built : Built text b.words.now predicates count b.store
   pub many : listed ≡ length built.triples
   pub fits : 3 * listed ≤ length out
 
 -- they are written: "ordered by step, then text"
-pub record ListedAs (text w out : List ℕ) (predicates count : ℕ) (s : Store) (w' t' out' : List ℕ) : Type 0 where
-  pub same : w' ≡ w
-  pub sound : Sound w t' s
-  pub built : Built text w predicates count s
+pub record ListedAs (text : List ℕ) (b : Builder) (out : List ℕ) (predicates count : ℕ) (b' : Builder) (out' : List ℕ) : Type 0 where
+  pub later : Later b b'
+  pub same : b'.words.now ≡ b.words.now
+  pub store : b'.store ≡ b.store
+  pub built : Built text b.words.now predicates count b.store
   pub words : out' ≡ listed_over (in_order built.triples) out
 
 -- a memory that rows 1 and 2 do not refuse, with a computed table that is right for it
@@ -65,10 +69,10 @@ pub record ListedIn (r : Fields) (w l text predicates out w' t' out' : List ℕ)
   pub may : MayMake (with_count r count) w' l t' predicates out' listed
 
 -- whatever is made, and whatever the list is
-abbrev pub PreparedAs : Fields → List ℕ → List ℕ → List ℕ → List ℕ → List ℕ → List ℕ → List ℕ → Prepared → Type 0
-PreparedAs r w text predicates out w' t' out' (prepared.Refused row) =
-    (k : Making) (l : List ℕ) → Valid (state_of r w l) → comes_to k r w l text predicates out ≡ refused_itself (refused_by row) (state_of r w' l) out'
-PreparedAs r w text predicates out w' t' out' (prepared.Faulty row place) =
-    (k : Making) (l : List ℕ) → Valid (state_of r w l) → comes_to k r w l text predicates out ≡ refused_itself (faulty row place) (state_of r w' l) out'
-PreparedAs r w text predicates out w' t' out' (prepared.Listed count listed) =
-    (l : List ℕ) → Valid (state_of r w l) → ListedIn r w l text predicates out w' t' out' count listed
+abbrev pub PreparedAs : Fields → List ℕ → List ℕ → List ℕ → List ℕ → List ℕ → List ℕ → List ℕ → Result Listed Unlisted → Type 0
+PreparedAs r w text predicates out w' t' out' (Err (unlisted.Refused k)) =
+    (m : Making) (l : List ℕ) → Valid (state_of r w l) → comes_to m r w l text predicates out ≡ refused_itself (refused_by (number k)) (state_of r w' l) out'
+PreparedAs r w text predicates out w' t' out' (Err (unlisted.Faulty f)) =
+    (m : Making) (l : List ℕ) → Valid (state_of r w l) → comes_to m r w l text predicates out ≡ refused_itself (faulty (number f.refusal) f.at) (state_of r w' l) out'
+PreparedAs r w text predicates out w' t' out' (Ok x) =
+    (l : List ℕ) → Valid (state_of r w l) → ListedIn r w l text predicates out w' t' out' x.count x.listed

@@ -3,44 +3,68 @@
 
 ghost use Rattle.std.specs.Prelude.{◌≡◌, ℕ};
 ghost use Rattle.preparing.specs.Contract.{MayList, ListedAs, Prepares, PreparedAs};
+ghost use Rattle.preparing.specs.declared.Unlisted.TheVariants as unlisted;
 
-use conditions::{Store, Table};
+use conditions::{Builder, Table};
 use formula_walk::{Pass, Plan};
 use model::Fields;
+use refusals::Refusal;
+use tokens::Fault;
 
-// Refused, for the text at a place in it; or listed in the answer words, with the count of nodes that its conditions left.
+// A formula that is listed in the answer words: the count of nodes that its conditions left, and how many triples they are.
 #[derive(Clone, Copy)]
-pub enum Prepared {
-    Refused(u32),
-    Faulty { row: u32, place: usize },
-    Listed { count: u32, listed: usize },
+pub struct Listed {
+    pub count: u32,
+    pub listed: usize,
 }
 
-// The triples, in one walk over the text for each step, until all are written.
+// Why a formula is not listed: a row of the table, or a fault of its text.
+#[derive(Clone, Copy)]
+pub enum Unlisted {
+    Refused(Refusal),
+    Faulty(Fault),
+}
+
+impl From<Refusal> for Unlisted {
+    ghost from_gives = { λ k e. e ≡ unlisted.Refused k };
+
+    fn from(k: Refusal) -> Unlisted {
+        Unlisted::Refused(k)
+    }
+}
+
+impl From<Fault> for Unlisted {
+    ghost from_gives = { λ f e. e ≡ unlisted.Faulty f };
+
+    fn from(f: Fault) -> Unlisted {
+        Unlisted::Faulty(f)
+    }
+}
+
+// The triples, in one walk over the text for each step, until all are written. A text that was read once is read again.
 fn list_steps(
     text: &[u8],
-    words: &mut [u32],
-    table: &mut Table,
+    build: &mut Builder,
     answer: &mut [u32],
     predicates: usize,
     count: u32,
-    s: Store,
     listed: usize,
 )
-    requires { MayList text.now words.old table.old answer.old predicates count s listed }
-    ensures { ListedAs text.now words.old answer.old predicates count s words.new table.new answer.new }
+    requires { MayList text.now build.old answer.old predicates count listed }
+    ensures { ListedAs text.now build.old answer.old predicates count build.new answer.new }
 {
     let mut written: usize = 0;
-    let mut step: u32 = 0;
-    while (step < 33) & (written < listed) {
+    for step in 0..33 {
+        if listed <= written {
+            break;
+        }
         let g = Plan {
             pass: Pass::List(step),
             predicates,
             count,
         };
-        let x = formula_walk::walk_text(text, words, table, answer, g, written, s);
+        let x = formula_walk::walk_text(text, build, answer, g, written).unwrap();
         written = x.listed;
-        step += 1;
     }
 }
 
@@ -52,40 +76,41 @@ pub fn prepare(
     text: &[u8],
     predicates: &[u32],
     answer: &mut [u32],
-) -> Prepared
+) -> Result<Listed, Unlisted>
     requires { Prepares r words.old table.old }
     ensures { PreparedAs r words.old text.now predicates.now answer.old words.new table.new answer.new result }
 {
     let known = predicates.len() / making::predicate_words(r);
-    let s = rows::begin(r);
+    let mut build = Builder {
+        words,
+        table,
+        store: rows::begin(r),
+    };
     let counting = Plan {
         pass: Pass::Count,
         predicates: known,
         count: r.count,
     };
-    let x = formula_walk::walk_text(text, words, table, answer, counting, 0, s);
-    if x.row != 0 {
-        return Prepared::Faulty {
-            row: x.row,
-            place: x.at,
-        };
-    }
+    let x = formula_walk::walk_text(text, &mut build, answer, counting, 0)?;
     if answer.len() / 3 < x.listed {
-        return Prepared::Refused(13);
+        return Err(Unlisted::Refused(Refusal::BufferShort));
     }
     let building = Plan {
         pass: Pass::List(33),
         predicates: known,
         count: r.count,
     };
-    let y = formula_walk::walk_text(text, words, table, answer, building, 0, s);
-    let built = y.store;
-    if rows::clear_where(words, r.count, built.full) {
-        return Prepared::Refused(9);
-    }
-    list_steps(text, words, table, answer, known, r.count, built, x.listed);
-    Prepared::Listed {
-        count: built.count,
+    formula_walk::walk_text(text, &mut build, answer, building, 0).unwrap();
+    let store = build.store;
+    rows::clear_where(words, r.count, store.full, Refusal::StoreFull)?;
+    let mut build = Builder {
+        words,
+        table,
+        store,
+    };
+    list_steps(text, &mut build, answer, known, r.count, x.listed);
+    Ok(Listed {
+        count: store.count,
         listed: x.listed,
-    }
+    })
 }

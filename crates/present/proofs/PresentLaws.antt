@@ -1,10 +1,6 @@
 -- Ite builds nothing where a node stands for its answer, and answers that node.
-use mathlib.Core.Path.{◌≡◌, refl, sym, ap, ◌∙◌}
-use mathlib.Core.Bool.{Bool, true, false}
-use mathlib.Core.List.{List}
-use Prim.Native.Nat.{ℕ, zero, suc, ◌+◌, ◌<◌, ◌≤◌}
-use native.Mathlib.Omega.{arith}
-use native.Mathlib.Decide.{dec_lt, ℕ_discrete}
+use Rattle.std.proofs.Math.Decide.{dec_lt, ℕ_discrete}
+use Rattle.std.proofs.Common.{◌≡◌, refl, sym, ap, ◌∙◌, Bool, true, false, List, ℕ, zero, suc, ◌+◌, ◌<◌, ◌≤◌, arith, Option, Some, None}
 use Rattle.nodes.specs.Words.{var_at, low_at, high_at, child_at}
 use Rattle.nodes.specs.Standard.{Standard}
 use Rattle.nodes.proofs.WordsLaws.{has_words_lem}
@@ -16,8 +12,6 @@ use Rattle.diagrams.proofs.ValueLaws.{value_child}
 use Rattle.diagrams.proofs.CanonLaws.{node-same, value-change}
 use Rattle.diagrams.proofs.PartsLaws.{Ready, part_hit, part_miss, part_le, part_var, part-value, least-small}
 use Rattle.operations.specs.declared.Store.{Store}
-use Rattle.operations.specs.declared.Plain.{Plain}
-use Rattle.operations.specs.declared.Plain.TheVariants.{Done, Split}
 use Rattle.operations.specs.Build.{pure}
 use Rattle.operations.specs.Make.{Make}
 use Rattle.operations.specs.Ite.{plain_of, least_of, part_of, parts_of, Ite}
@@ -98,12 +92,12 @@ module _ (t : ℕ) (ih : Nothing t) (w : List ℕ) (s : Store) (f g h r : ℕ) (
   all : Ready w s.count f g h
   all = record { standard = S; first = A.first; second = A.second; third = A.third }
 
-  by_rule : (d : Plain) → plain_of s.full f g h ≡ d → Ite f g h w s ≡ pure r w s
+  by_rule : (d : Option ℕ) → plain_of s.full f g h ≡ d → Ite f g h w s ≡ pure r w s
   unfolding Nothing
-  by_rule (Done n) e =
+  by_rule (Some n) e =
       let N : Stands 0 (Chosen w f g h) w s n = rw (← ite-done w s f g h n all e) at (ready-builds {s = s} all).post in
       sym (ite-done w s f g h n all e) ∙ ap (λ (m : ℕ). pure m w s) (node-same S n r N.below A.node (λ φ. N.is free φ ∙ sym (A.is φ)))
-  by_rule Split e =
+  by_rule None e =
       let d = parts_of w f g h in
       let n : Splits s.full f = splits s.full f g h e in
       let small = least-small f g h all n.not1 n.not0 in

@@ -1,119 +1,118 @@
-// The lines of text that a case prints.
+// The lines of text that a case prints, each by a writer.
 #![tactic(auto)]
 
-ghost use Rattle.std.specs.Prelude.{◌≡◌, ℕ, ◌+◌, ◌*◌, ◌/◌, ◌<◌, ◌≤◌, length, get_or};
-ghost use Rattle.text.specs.Text.{out, appended};
-ghost use Rattle.nodes.specs.Standard.{Standard};
-ghost use Rattle.lines.specs.Lines.{write_line, idle_line, bit_text, bits_text, read_line, assert_word, assert_line, check_line, end_line, refused_line};
+ghost use Rattle.std.specs.Prelude.{◌≡◌, ℕ, ◌+◌, ◌*◌, ◌/◌, ◌<◌, ◌≤◌, ◌++◌, length, get_or};
+ghost use Rattle.text.specs.Decimal.{decimal};
+ghost use Rattle.text.specs.Writer.{Wrote};
+ghost use Rattle.conditions.specs.Show.{text_of};
+ghost use Rattle.lines.specs.Lines.{line, write_line, idle_line, bit_text, bits_text, read_line, assert_line, check_line, end_line, refused_line};
 
-use text::Text;
+use conditions::{Diagrams, put_condition};
+use text::Writer;
+
+// A word, a number and the end of the line.
+fn put_numbered(w: &mut Writer, word: &[u8], number: u32)
+    ensures { Wrote w.old w.new (line (word.now ++ decimal number)) }
+{
+    w.put_bytes(word);
+    w.put_decimal(number);
+    w.put_byte(b'\n');
+}
+
+// A word, a condition and the end of the line.
+fn put_told(w: &mut Writer, word: &[u8], d: Diagrams, condition: u32)
+    requires { condition < d.count }
+    ensures { Wrote w.old w.new (line (word.now ++ text_of d.entry.words.now condition)) }
+{
+    w.put_bytes(word);
+    put_condition(w, d, condition);
+    w.put_byte(b'\n');
+}
 
 // A write's entry place.
-pub fn put_write(buf: &mut [u8], t: Text, place: u32) -> Text
-    ensures { out buf.new result ≡ appended (write_line place) (out buf.old t) }
+#[tactic(auto, unfolding(lines::specs::Lines::write_line))]
+pub fn put_write(w: &mut Writer, place: u32)
+    ensures { Wrote w.old w.new (write_line place) }
 {
-    let a = text::put_bytes(buf, t, b"write ");
-    let b = text::put_decimal(buf, a, place);
-    text::put_byte(buf, b, b'\n')
+    put_numbered(w, b"write ", place);
 }
 
 // An idle write.
-pub fn put_idle(buf: &mut [u8], t: Text) -> Text
-    ensures { out buf.new result ≡ appended idle_line (out buf.old t) }
+#[tactic(auto, unfolding(lines::specs::Lines::idle_line))]
+pub fn put_idle(w: &mut Writer)
+    ensures { Wrote w.old w.new idle_line }
 {
-    text::put_bytes(buf, t, b"write idle\n")
+    w.put_bytes(b"write idle\n");
 }
 
 // One bit of a word: a space, h, a colon, l.
-fn put_bit(buf: &mut [u8], t: Text, words: &[u32], count: u32, h: u32, l: u32) -> Text
-    requires { Standard words.now count × (h < count) × (l < count) }
-    ensures { out buf.new result ≡ appended (bit_text words.now h l) (out buf.old t) }
+fn put_bit(w: &mut Writer, d: Diagrams, h: u32, l: u32)
+    requires { (h < d.count) × (l < d.count) }
+    ensures { Wrote w.old w.new (bit_text d.entry.words.now h l) }
 {
-    let a = text::put_byte(buf, t, b' ');
-    let b = conditions::put_condition(buf, a, words, count, h);
-    let c = text::put_byte(buf, b, b':');
-    conditions::put_condition(buf, c, words, count, l)
+    w.put_byte(b' ');
+    put_condition(w, d, h);
+    w.put_byte(b':');
+    put_condition(w, d, l);
 }
 
 // The bits of a word, highest first.
-fn put_bits(buf: &mut [u8], t: Text, words: &[u32], count: u32, word: &[u32]) -> Text
-    requires { Standard words.now count × ((i : ℕ) → i < length word.now → get_or word.now i 0 < count) }
-    ensures { out buf.new result ≡ appended (bits_text words.now word.now (length word.now / 2)) (out buf.old t) }
+fn put_bits(w: &mut Writer, d: Diagrams, word: &[u32])
+    requires { (i : ℕ) → i < length word.now → get_or word.now i 0 < d.count }
+    ensures { Wrote w.old w.new (bits_text d.entry.words.now word.now (length word.now / 2)) }
 {
-    let mut t = t;
-    let mut i = word.len() / 2;
-    while 0 < i {
-        i -= 1;
-        let at = 2 * i;
-        t = put_bit(buf, t, words, count, word[at], word[at + 1]);
+    for i in (0..word.len() / 2).rev() {
+        put_bit(w, d, word[2 * i], word[2 * i + 1]);
     }
-    t
 }
 
 // A read's answer word: h:l for each bit, highest first.
-pub fn put_read(buf: &mut [u8], t: Text, words: &[u32], count: u32, word: &[u32]) -> Text
-    requires { Standard words.now count × ((i : ℕ) → i < length word.now → get_or word.now i 0 < count) }
-    ensures { out buf.new result ≡ appended (read_line words.now word.now) (out buf.old t) }
+pub fn put_read(w: &mut Writer, d: Diagrams, word: &[u32])
+    requires { (i : ℕ) → i < length word.now → get_or word.now i 0 < d.count }
+    ensures { Wrote w.old w.new (read_line d.entry.words.now word.now) }
 {
-    let a = text::put_bytes(buf, t, b"read");
-    let b = put_bits(buf, a, words, count, word);
-    text::put_byte(buf, b, b'\n')
-}
-
-// Whether an assert was entered or kept.
-fn put_entered(buf: &mut [u8], t: Text, entered: bool) -> Text
-    ensures { out buf.new result ≡ appended (assert_word entered) (out buf.old t) }
-{
-    if entered {
-        text::put_bytes(buf, t, b"assert entered ")
-    } else {
-        text::put_bytes(buf, t, b"assert kept ")
-    }
+    w.put_bytes(b"read");
+    put_bits(w, d, word);
+    w.put_byte(b'\n');
 }
 
 // Whether an assert was entered or kept, and the assert condition.
-pub fn put_assert(
-    buf: &mut [u8],
-    t: Text,
-    words: &[u32],
-    count: u32,
-    entered: bool,
-    condition: u32,
-) -> Text
-    requires { Standard words.now count × (condition < count) }
-    ensures { out buf.new result ≡ appended (assert_line words.now entered condition) (out buf.old t) }
+pub fn put_assert(w: &mut Writer, d: Diagrams, entered: bool, condition: u32)
+    requires { condition < d.count }
+    ensures { Wrote w.old w.new (assert_line d.entry.words.now entered condition) }
 {
-    let a = put_entered(buf, t, entered);
-    let b = conditions::put_condition(buf, a, words, count, condition);
-    text::put_byte(buf, b, b'\n')
+    let word: &[u8] = if entered {
+        b"assert entered "
+    } else {
+        b"assert kept "
+    };
+    put_told(w, word, d, condition);
 }
 
 // The check condition.
-pub fn put_check(buf: &mut [u8], t: Text, words: &[u32], count: u32, condition: u32) -> Text
-    requires { Standard words.now count × (condition < count) }
-    ensures { out buf.new result ≡ appended (check_line words.now condition) (out buf.old t) }
+#[tactic(auto, unfolding(lines::specs::Lines::check_line))]
+pub fn put_check(w: &mut Writer, d: Diagrams, condition: u32)
+    requires { condition < d.count }
+    ensures { Wrote w.old w.new (check_line d.entry.words.now condition) }
 {
-    let a = text::put_bytes(buf, t, b"check ");
-    let b = conditions::put_condition(buf, a, words, count, condition);
-    text::put_byte(buf, b, b'\n')
+    put_told(w, b"check ", d, condition);
 }
 
 // The entry count, at the end.
-pub fn put_end(buf: &mut [u8], t: Text, entries: u32) -> Text
-    ensures { out buf.new result ≡ appended (end_line entries) (out buf.old t) }
+#[tactic(auto, unfolding(lines::specs::Lines::end_line))]
+pub fn put_end(w: &mut Writer, entries: u32)
+    ensures { Wrote w.old w.new (end_line entries) }
 {
-    let a = text::put_bytes(buf, t, b"end ");
-    let b = text::put_decimal(buf, a, entries);
-    text::put_byte(buf, b, b'\n')
+    put_numbered(w, b"end ", entries);
 }
 
 // The number of a refusal, and how many accesses were printed before.
-pub fn put_refused(buf: &mut [u8], t: Text, number: u32, after: u32) -> Text
-    ensures { out buf.new result ≡ appended (refused_line number after) (out buf.old t) }
+pub fn put_refused(w: &mut Writer, number: u32, after: u32)
+    ensures { Wrote w.old w.new (refused_line number after) }
 {
-    let a = text::put_bytes(buf, t, b"refused ");
-    let b = text::put_decimal(buf, a, number);
-    let c = text::put_bytes(buf, b, b" after ");
-    let d = text::put_decimal(buf, c, after);
-    text::put_byte(buf, d, b'\n')
+    w.put_bytes(b"refused ");
+    w.put_decimal(number);
+    w.put_bytes(b" after ");
+    w.put_decimal(after);
+    w.put_byte(b'\n');
 }

@@ -1,11 +1,9 @@
 -- A read by its rows, and its word.
-use mathlib.Core.Path.{◌≡◌, refl, sym, ap, ◌∙◌}
-use mathlib.Core.Bool.{Bool, true, false, ◌&&◌, not}
-use mathlib.Core.List.{List, [], ◌++◌, append-nil, ◌∷◌}
-use Prim.Native.Nat.{ℕ, zero, suc, ◌+◌, ◌*◌, ◌<◌, ◌≤◌, ◌-◌}
-use native.Mathlib.Omega.{arith}
-use lib.ListN.{length, get_or, take, drop, drop_of_length-le}
+use Rattle.std.proofs.Common.{◌≡◌, Bool, true, false, ◌&&◌, not, List, [], ◌∷◌, ℕ, ◌+◌, ◌<◌, ◌≤◌, eqb, length, get_or, drop, refl, sym, ap, ◌∙◌, arith}
 use borrow.Author.Tests.{eq-eqb, lt-leb, le-leb, not-true, not-false}
+use Rattle.refusals.specs.declared.Refusal.{Refusal}
+use Rattle.refusals.specs.Refusal.{number}
+use Rattle.refusals.proofs.RefusalLaws.{number-above}
 use Rattle.nodes.proofs.BoolLaws.{both_and}
 use Rattle.conditions.specs.Stores.{clear_of}
 use Rattle.conditions.specs.Build.{Store}
@@ -13,15 +11,14 @@ use Rattle.conditions.proofs.Promises.{builds_clear}
 use Rattle.model.specs.Record as model
 use Rattle.model.specs.Access as built
 use Rattle.model.specs.Rows.{first_row, users, legal_pairs, read_rows, Row, row1, row2, row3, ports_row, memory_rows}
-use Rattle.model.specs.Step.{State, filled, answer_words, begin, Result, done}
+use Rattle.model.specs.Step.{State, filled, begin, Result, done}
 use Rattle.model.specs.Frames.{Valid, PortsValid}
 use Rattle.model.proofs.CallFactLaws.{read-facts}
 use Rattle.model.proofs.ProgramLaws.{read-program}
 use Rattle.building.specs.Contract.{shape, Looks, Nodes}
 use Rattle.model.specs.declared.Fields.{Fields}
-use Rattle.rows.specs.Contract.{unless_refused, argument_rows, ported_of}
+use Rattle.rows.specs.Contract.{argument_rows, ported_of}
 use Rattle.rows.proofs.CallLaws.{row-passes, same_rows, no-users, no_pairs, facts-look}
-use lib.Dec.{eqb}
 use Rattle.model.proofs.PortLaws.{held_at, held-length}
 use Rattle.nodes.specs.Search.{every}
 use Rattle.conditions.specs.User.{is_user}
@@ -32,14 +29,14 @@ module _ (s : State) (p : ℕ) (e a out : List ℕ) where
   rows = read_rows s.rec s.words s.list s.ports p e a out
 
   -- rows 1 to 3 of the memory come first
-  pub read_first : {k : ℕ} → k ≡ first_row (memory_rows s.rec s.words s.list []) → (k ≡ 0 → ⊥) → k ≡ first_row rows
-  read_first {k} q n = q ∙ go (row1 s.rec s.words) (row2 s.rec s.words) (row3 s.rec s.words s.list) (λ z. n (q ∙ z))
+  pub read_first : (k : Refusal) → number k ≡ first_row (memory_rows s.rec s.words s.list []) → number k ≡ first_row rows
+  read_first k q = q ∙ go (row1 s.rec s.words) (row2 s.rec s.words) (row3 s.rec s.words s.list) q
     where
-      go : (x y z : Bool) → (first_row ((1, x) ∷ (2, y) ∷ (3, z) ∷ []) ≡ 0 → ⊥) → first_row ((1, x) ∷ (2, y) ∷ (3, z) ∷ []) ≡ first_row ((1, x) ∷ (2, y) ∷ (3, z && ports_row s.rec s.words s.ports) ∷ drop 3 rows)
+      go : (x y z : Bool) → number k ≡ first_row ((1, x) ∷ (2, y) ∷ (3, z) ∷ []) → first_row ((1, x) ∷ (2, y) ∷ (3, z) ∷ []) ≡ first_row ((1, x) ∷ (2, y) ∷ (3, z && ports_row s.rec s.words s.ports) ∷ drop 3 rows)
       go false y z n = refl
       go true false z n = refl
       go true true false n = refl
-      go true true true n = absurd (n refl)
+      go true true true n = absurd (omega (arith, number-above k))
 
   module _ (K : Valid s) where
     -- then 3 of the ports
@@ -82,11 +79,6 @@ module _ (s : State) (p : ℕ) (e a out : List ℕ) where
                 whole true = refl
                 whole false = refl
 
--- a read that is refused by k leaves the answer words
-pub leaves-words : (k : ℕ) (out : List ℕ) → out ≡ answer_words (unless_refused k (filled out)) out
-leaves-words zero out = refl
-leaves-words (suc k) out = refl
-
 -- what its rows leave
 pub record ReadHolds (r : Fields) (w l ps : List ℕ) (p : ℕ) (e a out : List ℕ) : Type 0 where
   pub wide : r.sizes.w ≤ 16
@@ -99,9 +91,9 @@ pub record ReadHolds (r : Fields) (w l ps : List ℕ) (p : ℕ) (e a out : List 
   pub word : length out ≡ model.data_words r
   pub clears : clear_of (built.Read r l (model.held_word r ps p) (get_or e 0 0) (get_or e 1 0) a w (begin r)).words r.count ≡ clear_of w r.count
 
-pub read-holds : (r : Fields) (w l ps : List ℕ) (p : ℕ) (e a out : List ℕ) → length ps ≡ 128 → first_row (read_rows r w l ps p e a out) ≡ 0 → ReadHolds r w l ps p e a out
+pub read-holds : (r : Fields) (w l ps : List ℕ) (p : ℕ) (e a out : List ℕ) → length ps ≡ 128 → 0 ≡ first_row (read_rows r w l ps p e a out) → ReadHolds r w l ps p e a out
 read-holds r w l ps p e a out long z =
-    let F = read-facts (ported_of r w l ps) p e a out z in
+    let F = read-facts (ported_of r w l ps) p e a out (sym z) in
     let wide = F.memory.range.w-most in
     let h = held-length r ps p long wide F.port in
     record {
@@ -120,10 +112,6 @@ read-holds r w l ps p e a out long z =
 pub read-shape : (r : Fields) (l held : List ℕ) (h m : ℕ) (a w : List ℕ) (s : Store) → built.Read (shape r.sizes r.entries) l held h m a w s ≡ built.Read r l held h m a w s
 unfolding built.Read built.Look built.entry_step
 read-shape r l held h m a w s = refl
-
--- a word copied over all of a slice
-pub copied_all : {x : List ℕ} (out word : List ℕ) → x ≡ take 0 out ++ (word ++ drop (0 + length word) out) → length out ≡ length word → x ≡ word
-copied_all out word q e = q ∙ ap (λ (t : List ℕ). word ++ t) (drop_of_length-le out {i = 0 + length word} (omega arith)) ∙ append-nil word
 
 -- an accepted read, by the words that it copied and the port that it replaced
 pub read_done : (x : Result) (r : Fields) (w l ps : List ℕ) (p : ℕ) (word out' ps' : List ℕ) → x ≡ record { answer = done (filled word); after = ported_of r w l (model.replaced ps p word) } → out' ≡ word → ps' ≡ model.replaced ps p word

@@ -5,17 +5,18 @@ ghost use Rattle.std.specs.Prelude.{◌≡◌, ℕ, ◌+◌, ◌*◌, ◌<◌, �
 ghost use Rattle.conditions.specs.Contract.{Sound};
 ghost use Rattle.model.specs.Record.{address_words, data_words};
 ghost use Rattle.model.specs.Rows.{first_row, read_rows};
-ghost use Rattle.model.specs.Step.{filled, begin, read, access, refusal};
+ghost use Rattle.model.specs.Step.{begin, read, access, refusal};
 ghost use Rattle.model.specs.Frames.{Valid, PortsValid};
-ghost use Rattle.rows.specs.Contract.{ported_of, unless_refused};
-ghost use Rattle.read_access.specs.Contract.{Reads, ReadsOn};
+ghost use Rattle.refusals.specs.Refusal.{row_of};
+ghost use Rattle.rows.specs.Contract.{ported_of};
+ghost use Rattle.read_access.specs.Contract.{read_answer, Reads, ReadsOn};
 
-use building::{ControlNode, ControlPair};
-use conditions::Table;
+use building::{ControlNode, Entries, Pair};
+use conditions::{Builder, Diagrams, Table};
 use model::Fields;
-use rows::Done;
+use refusals::Refusal;
 
-// The row that refuses a read of a valid memory with valid ports, or 0. A read has no data.
+// The rows of a read of a valid memory with valid ports. A read has no data.
 fn read_row(
     r: Fields,
     words: &[u32],
@@ -25,19 +26,19 @@ fn read_row(
     enable: &[u32],
     address: &[u32],
     answer: &[u32],
-) -> u32
+) -> Result<(), Refusal>
     requires { Valid (ported_of r words.now list.now ports.now) × PortsValid (ported_of r words.now list.now ports.now) × (length enable.now ≡ 2) × (length address.now ≡ address_words r) × (length answer.now ≡ data_words r) }
-    ensures { result ≡ first_row (read_rows r words.now list.now ports.now port enable.now address.now answer.now) }
+    ensures { row_of result ≡ first_row (read_rows r words.now list.now ports.now port enable.now address.now answer.now) }
 {
     if 3 < port {
-        return 14;
+        return Err(Refusal::Port);
     }
     rows::argument_row(r, words, enable, 1, address, &address[..0], 0)
 }
 
 // A read that no row before 9 refuses; the word is its own.
 fn read_into(
-    r: Fields,
+    r: &mut Fields,
     words: &mut [u32],
     list: &[u32],
     table: &mut Table,
@@ -47,44 +48,39 @@ fn read_into(
     address: &[u32],
     answer: &mut [u32],
     word: &mut [u32],
-) -> Done
-    requires { (refusal (access (read port enable.now address.now answer.old)) (ported_of r words.old list.now ports.old) ≡ 0) × Sound words.old table.old (begin r) × (length word.old ≡ data_words r) × (length ports.old ≡ 128) }
-    ensures { ReadsOn (ported_of r words.old list.now ports.old) port enable.now address.now answer.old (ported_of result.after words.new list.now ports.new) (unless_refused result.row (filled answer.new)) answer.new table.new }
+) -> Result<(), Refusal>
+    requires { (0 ≡ refusal (access (read port enable.now address.now answer.old)) (ported_of r.old words.old list.now ports.old)) × Sound words.old table.old (begin r.old) × (length word.old ≡ data_words r.old) × (length ports.old ≡ 128) }
+    ensures { ReadsOn (ported_of r.old words.old list.now ports.old) port enable.now address.now answer.old (ported_of r.new words.new list.now ports.new) (read_answer result answer.new) answer.new table.new }
 {
-    let c = ControlPair {
+    let c = Pair {
         h: ControlNode(enable[0]),
         l: ControlNode(enable[1]),
     };
-    let entries = r.entries as usize;
-    let s = rows::begin(r);
+    let entries = Entries {
+        sizes: r.sizes,
+        count: r.entries as usize,
+        list,
+    };
     let all = &ports[..];
     let at = port * 32;
     let end = at + ranges::data_words(r.sizes);
-    let u = building::read_word(
+    let mut build = Builder {
         words,
         table,
-        s,
-        r.sizes,
-        entries,
-        list,
-        c,
-        address,
-        &all[at..end],
-        word,
-    );
-    if rows::clear_where(words, r.count, u.full) {
-        return Done { after: r, row: 9 };
-    }
-    rows::copy(answer, 0, word);
+        store: rows::begin(*r),
+    };
+    building::read_word(&mut build, entries, c, address, &all[at..end], word);
+    let s = build.store;
+    rows::clear_where(words, r.count, s.full, Refusal::StoreFull)?;
+    answer.copy_from_slice(word);
     ports::replace_held(ports, port, word);
-    let mut after = r;
-    after.count = u.count;
-    Done { after, row: 0 }
+    r.count = s.count;
+    Ok(())
 }
 
 // A read of a valid memory with valid ports: rows 14 and 5 to 9, and the word, which its port then holds.
 pub fn read_on(
-    r: Fields,
+    r: &mut Fields,
     words: &mut [u32],
     list: &[u32],
     table: &mut Table,
@@ -93,14 +89,11 @@ pub fn read_on(
     enable: &[u32],
     address: &[u32],
     answer: &mut [u32],
-) -> Done
-    requires { Valid (ported_of r words.old list.now ports.old) × PortsValid (ported_of r words.old list.now ports.old) × Sound words.old table.old (begin r) × (length enable.now ≡ 2) × (length address.now ≡ address_words r) × (length answer.old ≡ data_words r) }
-    ensures { ReadsOn (ported_of r words.old list.now ports.old) port enable.now address.now answer.old (ported_of result.after words.new list.now ports.new) (unless_refused result.row (filled answer.new)) answer.new table.new }
+) -> Result<(), Refusal>
+    requires { Valid (ported_of r.old words.old list.now ports.old) × PortsValid (ported_of r.old words.old list.now ports.old) × Sound words.old table.old (begin r.old) × (length enable.now ≡ 2) × (length address.now ≡ address_words r.old) × (length answer.old ≡ data_words r.old) }
+    ensures { ReadsOn (ported_of r.old words.old list.now ports.old) port enable.now address.now answer.old (ported_of r.new words.new list.now ports.new) (read_answer result answer.new) answer.new table.new }
 {
-    let k = read_row(r, words, list, ports, port, enable, address, answer);
-    if k != 0 {
-        return Done { after: r, row: k };
-    }
+    read_row(*r, words, list, ports, port, enable, address, answer)?;
     let mut word: [u32; 32] = [0; 32];
     let size = ranges::data_words(r.sizes);
     read_into(
@@ -119,7 +112,7 @@ pub fn read_on(
 
 // Read(e, a), at a port.
 pub fn read(
-    r: Fields,
+    r: &mut Fields,
     words: &mut [u32],
     list: &[u32],
     ports: &mut [u32; 128],
@@ -127,21 +120,21 @@ pub fn read(
     enable: &[u32],
     address: &[u32],
     answer: &mut [u32],
-) -> Done
-    ensures { Reads (ported_of r words.old list.now ports.old) port enable.now address.now answer.old (ported_of result.after words.new list.now ports.new) (unless_refused result.row (filled answer.new)) answer.new }
+) -> Result<(), Refusal>
+    ensures { Reads (ported_of r.old words.old list.now ports.old) port enable.now address.now answer.old (ported_of r.new words.new list.now ports.new) (read_answer result answer.new) answer.new }
 {
-    let k = rows::memory_row(r, words, list);
-    if k != 0 {
-        return Done { after: r, row: k };
-    }
+    rows::memory_row(*r, words, list)?;
     let address_size = ranges::address_words(r.sizes);
     let answer_size = ranges::data_words(r.sizes);
-    let held = &ports[..];
-    if !ports::all_name_nodes(words, r.count, held, answer_size) {
-        return Done { after: r, row: 3 };
+    let d = Diagrams {
+        words,
+        count: r.count,
+    };
+    if !ports::all_name_nodes(d, &ports[..], answer_size) {
+        return Err(Refusal::Contents);
     }
     if !((enable.len() == 2) & (address.len() == address_size) & (answer.len() == answer_size)) {
-        return Done { after: r, row: 4 };
+        return Err(Refusal::Lengths);
     }
     let mut table: Table = [0; 32768];
     read_on(

@@ -5,8 +5,9 @@ ghost use Rattle.reading.specs.Layout.{lead_of, port_of, ends_of, size_of};
 
 use super::Ends;
 use format::Kind;
+use semantics::Sizes;
 
-// The kind that a byte selects.
+// The kind that a byte selects. No `From`: it would have to stand beside `Kind` in `format`, and the crates of the book hold no code.
 pub fn kind_of(b: u8) -> Kind
     ensures { result ≡ kind_of b }
 {
@@ -23,39 +24,32 @@ pub fn kind_of(b: u8) -> Kind
 pub fn is_known(kind: Kind) -> bool
     ensures { result ≡ is_known kind }
 {
-    match kind {
-        Kind::Write => true,
-        Kind::Read => true,
-        Kind::Assert => true,
-        Kind::Check => true,
-        Kind::Unknown => false,
-    }
+    !matches!(kind, Kind::Unknown)
 }
 
 // Where control, address and data end, which stand in this order.
-fn ends(control: usize, n: u32, w: u32) -> Ends
+fn ends(control: usize, z: Sizes) -> Ends
     requires { control ≤ 2 }
-    ensures { (result.control ≡ control) × (result.address ≡ control + 2 * n) × (result.word ≡ control + 2 * n + 2 * w) }
+    ensures { (result.control ≡ control) × (result.address ≡ control + 2 * z.n) × (result.word ≡ control + 2 * z.n + 2 * z.w) }
 {
-    let address = control + 2 * (n as usize);
+    let address = control + 2 * (z.n as usize);
     Ends {
         control,
         address,
-        word: address + 2 * (w as usize),
+        word: address + 2 * (z.w as usize),
     }
 }
 
 // Where control, address and data end among the nodes of an access of this kind. A read has no data.
-pub fn ends_of(kind: Kind, n: u32, w: u32) -> Ends
-    ensures value { result ≡ ends_of kind n w }
+pub fn ends_of(kind: Kind, z: Sizes) -> Ends
+    ensures value { result ≡ ends_of kind z.n z.w }
     ensures rising { (result.control ≤ result.address) × (result.address ≤ result.word) }
-    ensures whole { result.word ≡ size_of kind n w }
+    ensures whole { result.word ≡ size_of kind z.n z.w }
 {
     match kind {
-        Kind::Write => ends(2, n, w),
-        Kind::Read => ends(2, n, 0),
-        Kind::Assert => ends(1, n, w),
-        Kind::Check => ends(1, n, w),
+        Kind::Write => ends(2, z),
+        Kind::Read => ends(2, Sizes { w: 0, ..z }),
+        Kind::Assert | Kind::Check => ends(1, z),
         Kind::Unknown => Ends {
             control: 0,
             address: 0,
@@ -65,11 +59,10 @@ pub fn ends_of(kind: Kind, n: u32, w: u32) -> Ends
 }
 
 // How many nodes an access of this kind has.
-pub fn operands(kind: Kind, n: u32, w: u32) -> usize
-    ensures { result ≡ size_of kind n w }
+pub fn operands(kind: Kind, z: Sizes) -> usize
+    ensures { result ≡ size_of kind z.n z.w }
 {
-    let e = ends_of(kind, n, w);
-    e.word
+    ends_of(kind, z).word
 }
 
 // How many bytes stand between the kind byte and the nodes: a read's port.
@@ -77,11 +70,8 @@ pub fn lead(kind: Kind) -> usize
     ensures { result ≡ lead_of kind }
 {
     match kind {
-        Kind::Write => 0,
         Kind::Read => 1,
-        Kind::Assert => 0,
-        Kind::Check => 0,
-        Kind::Unknown => 0,
+        _ => 0,
     }
 }
 
@@ -89,5 +79,8 @@ pub fn lead(kind: Kind) -> usize
 pub fn port_of(kind: Kind, b: u8) -> u32
     ensures { result ≡ port_of kind b }
 {
-    if lead(kind) == 0 { 0 } else { b as u32 }
+    match kind {
+        Kind::Read => u32::from(b),
+        _ => 0,
+    }
 }

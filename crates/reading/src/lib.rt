@@ -1,7 +1,6 @@
 // What is read of a case file, from its bytes: numbers, the sections before the accesses, and each access in its place. No access is done here.
 #![tactic(auto)]
 
-mod accesses;
 mod bytes;
 mod kinds;
 mod reader;
@@ -10,8 +9,9 @@ mod sections;
 pub use bytes::{number_at, read_numbers};
 pub use format::Kind;
 pub use kinds::{ends_of, kind_of, operands};
-pub use reader::{Advance, Reader, access_at, begin, next};
+pub use reader::Reader;
 pub use sections::load_sections;
+use semantics::Sizes;
 
 // Where control, address and data end among the nodes of an access.
 #[derive(Clone, Copy)]
@@ -23,27 +23,17 @@ pub struct Ends {
 
 // An access in the file: its kind, its port, which a read alone has, and the byte where its nodes begin.
 #[derive(Clone, Copy)]
-pub enum Access {
-    Here { kind: Kind, port: u32, from: usize },
-    Refused(u32),
+pub struct Access {
+    pub kind: Kind,
+    pub port: u32,
+    pub from: usize,
 }
 
-// The access at a place, and the byte from which a reading goes on after it.
+// What the sections hold: the sizes, the node count, the count of accesses and the byte where they begin.
 #[derive(Clone, Copy)]
-pub struct Progress {
-    pub access: Access,
+pub struct Loaded {
+    pub sizes: Sizes,
+    pub count: u32,
+    pub accesses: u32,
     pub at: usize,
-}
-
-// What the sections hold: n, w, the node count, the count of accesses and the byte where they begin.
-#[derive(Clone, Copy)]
-pub enum Loaded {
-    Ready {
-        n: u32,
-        w: u32,
-        count: u32,
-        accesses: u32,
-        at: usize,
-    },
-    Refused(u32),
 }

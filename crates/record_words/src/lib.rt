@@ -11,7 +11,7 @@ use semantics::Sizes;
 // n, w, node count, entry count, assert condition, check condition.
 pub type RecordWords = [u32; 6];
 
-// The record that the words are.
+// The record that the words are. No `From` here and below: of the two types none is this crate's.
 pub fn record_of(words: &RecordWords) -> Record
     ensures { result.fields ≡ record_in words.now }
 {

@@ -1,13 +1,15 @@
 -- A call by its row: refused by a number, or what it does; and what it answers of a full store, and of one that is not.
-use mathlib.Core.Path.{◌≡◌, refl, sym, ap, subst, ◌∙◌}
-use mathlib.Core.Bool.{Bool, true, false, cond, ◌&&◌, true≢false}
-use mathlib.Core.List.{List, [], ◌∷◌, ◌++◌}
-use Prim.Native.Nat.{ℕ, zero, suc, ◌+◌, ◌*◌, ◌<◌, ◌≤◌}
-use native.Mathlib.Omega.{arith}
-use lib.Dec.{eqb}
-use lib.ListN.{length, get_or, drop}
+use Rattle.std.proofs.Common.{◌≡◌, Bool, true, false, cond, ◌&&◌, List, [], ◌∷◌, ◌++◌, ℕ, zero, suc, ◌+◌, ◌*◌, ◌<◌, ◌≤◌, eqb, length, get_or, drop, Ok, Err, refl, sym, ap, subst, ◌∙◌, arith}
+use Rattle.std.proofs.Common as Rust
+use Rattle.std.proofs.lemmas.Bool.{true≢false}
 use borrow.Author.Tests.{eq-eqb}
-use Rattle.nodes.specs.Search.{every}
+use Rattle.refusals.specs.declared.Refusal.{Refusal}
+use Rattle.refusals.specs.declared.Refusal.TheVariants.{Lengths, ListFull, StoreFull}
+use Rattle.refusals.specs.declared.Refusal.TheVariants as row
+use Rattle.refusals.specs.Refusal.{number, row_of}
+use Rattle.refusals.proofs.RefusalLaws.{number-suc, number-above}
+use Rattle.std.specs.Option.{ok_or}
+use Rattle.conditions.specs.Stores.{Diagrams, Reads}
 use Rattle.nodes.proofs.BoolLaws.{both_and}
 use Rattle.nodes.proofs.SearchLaws.{every_is, every-step, every_end}
 use Rattle.conditions.specs.Stores.{Standard, clear_of}
@@ -17,96 +19,100 @@ use Rattle.conditions.specs.Contract.{Sound}
 use Rattle.conditions.proofs.Promises.{standard_is, user_is}
 use Rattle.model.specs.Record as model
 use Rattle.model.specs.Rows.{Row, first_row, users, legal_pairs, row1, row2, row3, memory_rows, check_rows}
-use Rattle.model.specs.Step.{State, with_words, Access, NodeCall, Call, access, node_call, Given, accepted, Answer, refused, is_refused, Result, refusal, Finish, full, short, closed, unless_full, finish_access, finish_node, finish, turned_down_by, step}
+use Rattle.model.specs.Step.{State, with_words, Access, NodeCall, Call, access, node_call, refused, refusal, Finish, full, short, closed, unless_full, finish_access, finish_node, finish, step}
 use Rattle.model.specs.Chain.{Answered, AnswersNode}
 use Rattle.model.specs.Frames.{Valid}
 use Rattle.model.specs.Table.{Slice, MemoryFacts}
 use Rattle.model.proofs.FactLaws.{row1-tells}
 use Rattle.model.proofs.CallFactLaws.{check-facts}
 use Rattle.building.specs.Contract.{Nodes, Looks}
-use Rattle.rows.specs.Contract.{state_of, unless_refused, Answers, AnswersOn, argument_rows, cleared_where}
-
-unless-turned : (k : ℕ) (s : State) (x : Result) (g : Given) → (k ≡ 0 → ⊥) → turned_down_by k s x ≡ record { answer = unless_refused k g; after = s }
-unless-turned zero s x g n = absurd (n refl)
-unless-turned (suc k) s x g n = refl
-
-not-refused : (k : ℕ) (g : Given) → (k ≡ 0 → ⊥) → is_refused (unless_refused k g) ≡ false → ⊥
-not-refused zero g n e = n refl
-not-refused (suc k) g n e = true≢false e
+use Rattle.rows.specs.Contract.{state_of, Answers, AnswersOn, argument_rows, cleared_where, Cleared, Over}
 
 -- a call by its row
-step-turned : (c : Call) (s : State) {k : ℕ} → k ≡ refusal c s → (g : Given) → (k ≡ 0 → ⊥) → Answered c s s (unless_refused k g)
+step-turned : (c : Call) (s : State) (k : Refusal) → number k ≡ refusal c s → Answered c s s (refused (number k))
 unfolding step
-step-turned c s {k} e g n = rw (← e) (unless-turned k s (closed s (finish c s)) g n)
+step-turned c s k e = let h = number-suc k in rw (← e, h.1)
 
-step_acted : (c : Call) (s : State) {k : ℕ} → k ≡ refusal c s → k ≡ 0 → step c s ≡ closed s (finish c s)
+step_acted : (c : Call) (s : State) → 0 ≡ refusal c s → step c s ≡ closed s (finish c s)
 unfolding step
-step_acted c s e z = rw (← e, z)
+step_acted c s e = rw (← e)
 
-module _ (c : Access) (s : State) {k : ℕ} (e : k ≡ refusal (access c) s) where
-  pub turned : (g : Given) → (k ≡ 0 → ⊥) → Answers c s s (unless_refused k g)
-  turned g n = step-turned (access c) s e g n
+module _ (c : Access) (s : State) where
+  pub turned : (k : Refusal) → number k ≡ refusal (access c) s → Answers c s s (refused (number k))
+  turned k e = step-turned (access c) s k e
 
-  pub turned_on : (g : Given) {table : List ℕ} → (k ≡ 0 → ⊥) → AnswersOn c s s (unless_refused k g) table
-  turned_on g n = record { is = turned g n; sound = λ q. absurd (not-refused k g n q) }
+  pub turned_on : (k : Refusal) → number k ≡ refusal (access c) s → {table : List ℕ} → AnswersOn c s s (refused (number k)) table
+  turned_on k e = record { is = turned k e; sound = λ q. absurd (true≢false q) }
 
-  pub acted : k ≡ 0 → step (access c) s ≡ closed s (finish_access c s)
-  acted z = step_acted (access c) s e z
+  pub acted : 0 ≡ refusal (access c) s → step (access c) s ≡ closed s (finish_access c s)
+  acted e = step_acted (access c) s e
 
-module _ (c : NodeCall) (s : State) {k : ℕ} (e : k ≡ refusal (node_call c) s) where
-  pub node-turned : (g : Given) → (k ≡ 0 → ⊥) → AnswersNode c s s (unless_refused k g)
-  node-turned g n = step-turned (node_call c) s e g n
+module _ (c : NodeCall) (s : State) where
+  pub node-turned : (k : Refusal) → number k ≡ refusal (node_call c) s → AnswersNode c s s (refused (number k))
+  node-turned k e = step-turned (node_call c) s k e
 
-  pub node_acted : k ≡ 0 → step (node_call c) s ≡ closed s (finish_node c s)
-  node_acted z = step_acted (node_call c) s e z
+  pub node_acted : 0 ≡ refusal (node_call c) s → step (node_call c) s ≡ closed s (finish_node c s)
+  node_acted e = step_acted (node_call c) s e
 
--- what `clear_where` leaves of the words, where it refuses and where it does not
-module _ (w : List ℕ) {w' : List ℕ} (c : ℕ) (b : Bool) {t : Bool} (o : (w', t) ≡ cleared_where w c b) where
-  pub cleared_by : t ≡ true → (w' ≡ clear_of w c) × (b ≡ true)
-  cleared_by e =
-      let f : b ≡ true = sym (ap (λ (z : List ℕ × Bool). z.1) o) ∙ e in
-      (ap (λ (z : List ℕ × Bool). z.0) o ∙ ap (λ (b : Bool). cond b (clear_of w c) w) f, f)
+-- what `clear_where` leaves: the words, and whether and by what it refuses
+abbrev Kept : Type 0
+Kept = List ℕ × Rust.Result (Unit {0}) Refusal
 
-  pub left_by : t ≡ false → (w' ≡ w) × (b ≡ false)
-  left_by e =
-      let f : b ≡ false = sym (ap (λ (z : List ℕ × Bool). z.1) o) ∙ e in
-      (ap (λ (z : List ℕ × Bool). z.0) o ∙ ap (λ (b : Bool). cond b (clear_of w c) w) f, f)
+abbrev refuses : Kept → Bool
+refuses (w, Ok u) = false
+refuses (w, Err k) = true
 
--- what a call answers of the program x, which left the words w and the store u; `clear_where` made w' of the words, and t says whether u is full
-module _ {A : Type 0} (s : State) (x : Outcome A) (k : A → List ℕ → ℕ → Finish) {w w' : List ℕ} {u : Store} {a : A} {t : Bool} (is : ◌≡◌ {A = Outcome A} (record { words = w; store = u; answer = a }) x)
-    (o : (w', t) ≡ cleared_where w s.rec.count u.full) where
-  full_is : {b : Bool} → t ≡ b → u.full ≡ b
-  full_is e = sym (ap (λ (z : List ℕ × Bool). z.1) o) ∙ e
+abbrev refused_by : Kept → Refusal
+refused_by (w, Ok u) = StoreFull
+refused_by (w, Err k) = k
 
-  words_are : {b : Bool} → t ≡ b → w' ≡ cond b (clear_of w s.rec.count) w
-  words_are e = ap (λ (z : List ℕ × Bool). z.0) o ∙ ap (λ (b : Bool). cond b (clear_of w s.rec.count) w) (full_is e)
+module _ {w w' : List ℕ} {c : ℕ} {b : Bool} {by : Refusal} where
+  pub cleared_by : {k : Refusal} → Cleared w c b by w' (Err k) → (w' ≡ clear_of w c) × (b ≡ true) × (k ≡ by)
+  cleared_by {k} o = go b o.is
+    where
+      go : (b : Bool) → ◌≡◌ {A = Kept} (w', Err k) (cleared_where w c b by) → (w' ≡ clear_of w c) × (b ≡ true) × (k ≡ by)
+      go true o = (ap (λ (z : Kept). z.0) o, refl, ap refused_by o)
+      go false o = absurd (true≢false (ap refuses o))
 
-  acts_by : {b : Bool} → t ≡ b → unless_full x k ≡ cond b (full u) (k a w u.count)
+  pub left_by : {u : Unit {0}} → Cleared w c b by w' (Ok u) → (w' ≡ w) × (b ≡ false)
+  left_by {u} o = go b o.is
+    where
+      go : (b : Bool) → ◌≡◌ {A = Kept} (w', Ok u) (cleared_where w c b by) → (w' ≡ w) × (b ≡ false)
+      go true o = absurd (true≢false (sym (ap refuses o)))
+      go false o = (ap (λ (z : Kept). z.0) o, refl)
+
+-- what a call answers of the program x, which left the words w and the store u, and of which `clear_where` then made the words w'
+module _ {A : Type 0} (s : State) (x : Outcome A) (f : A → List ℕ → ℕ → Finish) {w : List ℕ} {u : Store} {a : A} (is : ◌≡◌ {A = Outcome A} (record { words = w; store = u; answer = a }) x) where
+  acts_by : {b : Bool} → u.full ≡ b → unless_full x f ≡ cond b (full u) (f a w u.count)
   unfolding unless_full
-  acts_by e = ap (λ (y : Outcome A). cond y.store.full (full y.store) (k y.answer y.words y.store.count)) (sym is) ∙ ap (λ (b : Bool). cond b (full u) (k a w u.count)) (full_is e)
+  acts_by e = ap (λ (y : Outcome A). cond y.store.full (full y.store) (f y.answer y.words y.store.count)) (sym is) ∙ ap (λ (b : Bool). cond b (full u) (f a w u.count)) e
 
-  pub nine_acts : clear_of x.words s.rec.count ≡ clear_of s.words s.rec.count → t ≡ true → closed s (unless_full x k) ≡ record { answer = refused 9; after = with_words s w' }
+  -- u is full
+  pub nine_acts : clear_of x.words s.rec.count ≡ clear_of s.words s.rec.count → {w' : List ℕ} {k : Refusal} → Cleared w s.rec.count u.full StoreFull w' (Err k) → closed s (unless_full x f) ≡ record { answer = refused (number k); after = with_words s w' }
   unfolding closed
-  nine_acts cl e =
-      let g : w' ≡ clear_of s.words s.rec.count = words_are e ∙ ap (λ (y : Outcome A). clear_of y.words s.rec.count) is ∙ cl in
-      ap (closed s) (acts_by e) ∙ ap (λ (l : List ℕ). record { answer = refused 9; after = with_words s l }) (sym g)
+  nine_acts cl {w'} {k} o =
+      let g = cleared_by o in
+      let h : w' ≡ clear_of s.words s.rec.count = g.0 ∙ ap (λ (y : Outcome A). clear_of y.words s.rec.count) is ∙ cl in
+      ap (closed s) (acts_by g.1) ∙ ap (λ (l : List ℕ). record { answer = refused 9; after = with_words s l }) (sym h) ∙ ap (λ (k : Refusal). record { answer = refused (number k); after = with_words s w' }) (sym g.2)
 
-  pub done_acts : t ≡ false → closed s (unless_full x k) ≡ closed s (k a w' u.count)
-  done_acts e = ap (closed s) (acts_by e) ∙ ap (λ (l : List ℕ). closed s (k a l u.count)) (sym (words_are e))
+  -- it is not
+  pub done_acts : {w' : List ℕ} {k : Refusal} {e : Unit {0}} → Cleared w s.rec.count u.full k w' (Ok e) → closed s (unless_full x f) ≡ closed s (f a w' u.count)
+  done_acts o = let g = left_by o in ap (closed s) (acts_by g.1) ∙ ap (λ (l : List ℕ). closed s (f a l u.count)) (sym g.0)
 
   -- then a second `clear_where` made w'' of these words, and what follows has no space
-  pub eight_acts : clear_of x.words s.rec.count ≡ clear_of s.words s.rec.count → t ≡ false → {w'' : List ℕ} {b v : Bool} → (w'', v) ≡ cleared_where w' s.rec.count b → v ≡ true → k a w' u.count ≡ short
-      → closed s (unless_full x k) ≡ record { answer = refused 8; after = with_words s w'' }
+  pub eight_acts : clear_of x.words s.rec.count ≡ clear_of s.words s.rec.count → {w' : List ℕ} {h : Refusal} {e : Unit {0}} → Cleared w s.rec.count u.full h w' (Ok e)
+      → {w'' : List ℕ} {b : Bool} {k : Refusal} → Cleared w' s.rec.count b ListFull w'' (Err k) → f a w' u.count ≡ short → closed s (unless_full x f) ≡ record { answer = refused (number k); after = with_words s w'' }
   unfolding closed
-  eight_acts cl e {b = b} q f z =
-      let g = (cleared_by w' s.rec.count b q f).0 ∙ ap (λ (l : List ℕ). clear_of l s.rec.count) (words_are e) ∙ ap (λ (y : Outcome A). clear_of y.words s.rec.count) is ∙ cl in
-      done_acts e ∙ ap (closed s) z ∙ ap (λ (l : List ℕ). record { answer = refused 8; after = with_words s l }) (sym g)
+  eight_acts cl o {w''} q z =
+      let g = cleared_by q in
+      let h : w'' ≡ clear_of s.words s.rec.count = g.0 ∙ ap (λ (l : List ℕ). clear_of l s.rec.count) (left_by o).0 ∙ ap (λ (y : Outcome A). clear_of y.words s.rec.count) is ∙ cl in
+      done_acts o ∙ ap (closed s) z ∙ ap (λ (l : List ℕ). record { answer = refused 8; after = with_words s l }) (sym h) ∙ ap (λ (k : Refusal). record { answer = refused (number k); after = with_words s w'' }) (sym g.2)
 
 pub not_full : {w m : List ℕ} (u : Store) → u.full ≡ false → Sound w m u → Sound w m (record { count = u.count; full = false })
 not_full {w} {m} u f S = subst (λ (b : Bool). Sound w m (record { count = u.count; full = b })) f S
 
-pub over-sound : {w w' m : List ℕ} (c : ℕ) (u : Store) {t : Bool} → (w', t) ≡ cleared_where w c u.full → t ≡ false → Sound w m u → Sound w' m (record { count = u.count; full = false })
-over-sound {w} {w'} {m} c u o e S = let g = left_by w c u.full o e in subst (λ (l : List ℕ). Sound l m (record { count = u.count; full = false })) (sym g.0) (not_full u g.1 S)
+pub over-sound : {w w' m : List ℕ} (c : ℕ) (u : Store) {k : Refusal} {e : Unit {0}} → Cleared w c u.full k w' (Ok e) → Sound w m u → Sound w' m (record { count = u.count; full = false })
+over-sound {w} {w'} {m} c u o S = let g = left_by o in subst (λ (l : List ℕ). Sound l m (record { count = u.count; full = false })) (sym g.0) (not_full u g.1 S)
 
 pub in-range_few : (r : model.Record) (w : List ℕ) → row1 r w ≡ true → (r.sizes.n ≤ 8) × (r.sizes.w ≤ 16)
 in-range_few r w e = let R = (row1-tells r w).is e in (R.n-most, R.w-most)
@@ -129,27 +135,33 @@ passes n true ts e = (refl, e)
 passes n false ts e = absurd (omega arith)
 
 -- rows 1 and 2, before any others
-pub store-holds : (r : model.Record) (w : List ℕ) {k : ℕ} → k ≡ first_row ((1, row1 r w) ∷ (2, row2 r w) ∷ []) → k ≡ 0 → (row1 r w ≡ true) × (row2 r w ≡ true)
-store-holds r w e z =
-    let one = passes 0 (row1 r w) ((2, row2 r w) ∷ []) (sym e ∙ z) in
+pub store-holds : (r : model.Record) (w : List ℕ) → 0 ≡ first_row ((1, row1 r w) ∷ (2, row2 r w) ∷ []) → (row1 r w ≡ true) × (row2 r w ≡ true)
+store-holds r w e =
+    let one = passes 0 (row1 r w) ((2, row2 r w) ∷ []) (sym e) in
     (one.0, (passes 1 (row2 r w) [] one.1).0)
 
-pub memory-valid : (s : State) {k : ℕ} → k ≡ first_row (memory_rows s.rec s.words s.list []) → k ≡ 0 → Valid s
-memory-valid s e z =
+-- row 2, by what reads the words
+pub store_read : (r : model.Record) (w : List ℕ) → row1 r w ≡ true → (o : Rust.Option Diagrams) → Reads w r.count o
+    → (row_of (ok_or o row.Store) ≡ first_row ((1, row1 r w) ∷ (2, row2 r w) ∷ [])) × Over w r.count (ok_or o row.Store)
+store_read r w e (Rust.Some d) q = (rw (e, q.0), (q.1, q.2))
+store_read r w e Rust.None q = (rw (e, q), tt)
+
+pub memory-valid : (s : State) → 0 ≡ first_row (memory_rows s.rec s.words s.list []) → Valid s
+memory-valid s e =
     let ts = memory_rows s.rec s.words s.list [] in
-    let one = passes 0 (row1 s.rec s.words) (drop 1 ts) (sym e ∙ z) in
+    let one = passes 0 (row1 s.rec s.words) (drop 1 ts) (sym e) in
     let two = passes 1 (row2 s.rec s.words) (drop 2 ts) one.1 in
     let three = passes 2 (row3 s.rec s.words s.list) [] two.1 in
     record { one = one.0; two = two.0; three = three.0 }
 
 -- the first of some rows refuses, whatever rows follow
-pub first-refuses : (us ts : List Row) (k : ℕ) → k ≡ first_row us → (k ≡ 0 → ⊥) → first_row (us ++ ts) ≡ k
-first-refuses [] ts k e n = absurd (n e)
-first-refuses (u ∷ us) ts k e n = go u.1 e (first-refuses us ts k)
+pub first-refuses : (us ts : List Row) (k : Refusal) → number k ≡ first_row us → number k ≡ first_row (us ++ ts)
+first-refuses [] ts k e = absurd (omega (arith, number-above k))
+first-refuses (u ∷ us) ts k e = go u.1 e (first-refuses us ts k)
   where
-    go : (b : Bool) → k ≡ cond b (first_row us) u.0 → (k ≡ first_row us → (k ≡ 0 → ⊥) → first_row (us ++ ts) ≡ k) → cond b (first_row (us ++ ts)) u.0 ≡ k
-    go true e f = f e n
-    go false e f = sym e
+    go : (b : Bool) → number k ≡ cond b (first_row us) u.0 → (number k ≡ first_row us → number k ≡ first_row (us ++ ts)) → number k ≡ cond b (first_row (us ++ ts)) u.0
+    go true e f = f e
+    go false e f = e
 
 -- users are nodes
 pub users-nodes : (r : model.Record) (w ws : List ℕ) → users r w ws ≡ true → (i : ℕ) → i < length ws → get_or ws i 0 < r.count
@@ -157,11 +169,11 @@ users-nodes r w ws e i h = (user_is w r.count (get_or ws i 0) (every_is (λ (j :
 
 -- an access that rows 1 to 3 refuse, and one that row 4 refuses
 module _ (c : Access) (s : State) (ts : List Row) (is : refusal (access c) s ≡ first_row (memory_rows s.rec s.words s.list ts)) where
-  pub memory-turned : {k : ℕ} (a : Given) → k ≡ first_row (memory_rows s.rec s.words s.list []) → (k ≡ 0 → ⊥) → Answers c s s (unless_refused k a)
-  memory-turned {k} a e n = turned c s (sym (is ∙ first-refuses (memory_rows s.rec s.words s.list []) ts k e n)) a n
+  pub memory-turned : (k : Refusal) → number k ≡ first_row (memory_rows s.rec s.words s.list []) → Answers c s s (refused (number k))
+  memory-turned k e = turned c s k (first-refuses (memory_rows s.rec s.words s.list []) ts k e ∙ sym is)
 
 pub lengths-turned : (c : Access) (s : State) (t : Bool) (ts : List Row) → refusal (access c) s ≡ first_row (memory_rows s.rec s.words s.list ((4, t) ∷ ts)) → Valid s → t ≡ false → Answers c s s (refused 4)
-lengths-turned c s t ts is K e = turned c s (sym (is ∙ valid_rows s K ((4, t) ∷ ts) ∙ first)) accepted (λ z. omega arith)
+lengths-turned c s t ts is K e = turned c s Lengths (sym (is ∙ valid_rows s K ((4, t) ∷ ts) ∙ first))
   where
     first : first_row ((4, t) ∷ ts) ≡ 4
     first = rw e
@@ -225,7 +237,7 @@ pub record Compared (r : model.Record) (l : List ℕ) (b : ℕ) (a d : List ℕ)
   pub word : Nodes r.count d
   pub control : b < r.count
 
-pub compared : (r : model.Record) (w l : List ℕ) (b : ℕ) (a d : List ℕ) {k : ℕ} → k ≡ first_row (check_rows r w l b a d) → k ≡ 0 → Compared r l b a d
-compared r w l b a d e z =
-    let F = check-facts (state_of r w l) b a d (sym e ∙ z) in
+pub compared : (r : model.Record) (w l : List ℕ) (b : ℕ) (a d : List ℕ) → 0 ≡ first_row (check_rows r w l b a d) → Compared r l b a d
+compared r w l b a d e =
+    let F = check-facts (state_of r w l) b a d (sym e) in
     record { wide = F.memory.range.w-most; looks = facts-look r w l a F.memory F.address; word = slice-nodes F.word; control = F.control.below }

@@ -1,2 +1,3 @@
 pub mod AppendLaws
 pub mod CallLaws
+pub mod SliceLaws

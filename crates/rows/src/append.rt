@@ -6,11 +6,7 @@ pub fn copy(list: &mut [u32], at: usize, slice: &[u32])
     requires { at + length slice.now ≤ length list.old }
     ensures { list.new ≡ take at list.old ++ (slice.now ++ drop (at + length slice.now) list.old) }
 {
-    let mut k = 0;
-    while k < slice.len() {
-        list[at + k] = slice[k];
-        k += 1;
-    }
+    list[at..at + slice.len()].copy_from_slice(slice);
 }
 
 // h, s, address and data of an entry, from a place on.

@@ -7,34 +7,29 @@ ghost use Rattle.model.specs.Record.{address_words, cell_words, list_capacity, a
 ghost use Rattle.model.specs.Rows.{first_row, row1, row2, row3, space_for, memory_rows, check_rows};
 ghost use Rattle.model.specs.Step.{begin};
 ghost use Rattle.model.specs.Frames.{Valid};
-ghost use Rattle.rows.specs.Contract.{state_of, argument_rows, cleared_where, EntryFits};
+ghost use Rattle.refusals.specs.Refusal.{row_of};
+ghost use Rattle.rows.specs.Contract.{state_of, argument_rows, Cleared, EntryFits, Over};
 
 mod append;
 mod slices;
 
 pub use append::copy;
 use building::{ControlNode, Marks};
-use conditions::Store;
+use conditions::{Diagrams, Store};
 use model::Fields;
-pub use slices::{legal_pairs, none_unknown, users_up_to};
+use refusals::Refusal;
+pub use slices::{all_users, legal_pairs, none_unknown};
 
-// The record after a call, and the number by which it is refused, or 0.
-#[derive(Clone, Copy)]
-pub struct Done {
-    pub after: Fields,
-    pub row: u32,
-}
-
-// Whether a call is refused after it has built, by 9 or 8; the words past the count are then cleared.
-pub fn clear_where(words: &mut [u32], count: u32, refused: bool) -> bool
+// A call that is refused after it has built, by 9 or 8, where it is: the words past the count are then cleared.
+pub fn clear_where(words: &mut [u32], count: u32, refused: bool, by: Refusal) -> Result<(), Refusal>
     requires { count * 3 ≤ length words.old }
-    ensures { (words.new, result) ≡ cleared_where words.old count refused }
+    ensures { Cleared words.old count refused by words.new result }
 {
     if refused {
         conditions::clear(words, count);
-        return true;
+        return Err(by);
     }
-    false
+    Ok(())
 }
 
 // The store as a call finds it.
@@ -52,7 +47,7 @@ pub fn list_capacity(r: Fields, list: &[u32]) -> u32
     ensures { result ≡ list_capacity r list.now }
 {
     let k = list.len() / ranges::entry_words(r.sizes);
-    if k < 4096 { k as u32 } else { 4096 }
+    k.min(4096) as u32
 }
 
 // Whether there is space for k entries more.
@@ -72,45 +67,43 @@ pub fn append_entry(r: Fields, list: &mut [u32], m: Marks, address: &[u32], data
     append::append(list, at, m.hard, m.soft, address, data);
 }
 
-// The first of rows 1 and 2 that refuses a call, or 0.
-pub fn store_row(r: Fields, words: &[u32]) -> u32
-    ensures { result ≡ first_row ((1, row1 r words.now) ∷ (2, row2 r words.now) ∷ []) }
+// Rows 1 and 2 of a call, and the diagrams that its words then are.
+pub fn store_row(r: Fields, words: &[u32]) -> Result<Diagrams<'_>, Refusal>
+    ensures { (row_of result ≡ first_row ((1, row1 r words.now) ∷ (2, row2 r words.now) ∷ [])) × Over words.now r.count result }
 {
-    let x = ranges::in_range(r.sizes);
-    let y = conditions::is_standard(words, r.count);
-    if !x {
-        return 1;
+    if !ranges::in_range(r.sizes) {
+        return Err(Refusal::Sizes);
     }
-    if y { 0 } else { 2 }
+    Diagrams::read(words, r.count).ok_or(Refusal::Store)
 }
 
 // Row 3.
-fn has_valid_list(r: Fields, words: &[u32], list: &[u32]) -> bool
-    requires { (r.sizes.n ≤ 8) × (r.sizes.w ≤ 16) × Standard words.now r.count }
-    ensures { result ≡ row3 r words.now list.now }
+fn has_valid_list(r: Fields, d: Diagrams, list: &[u32]) -> bool
+    requires { (r.sizes.n ≤ 8) × (r.sizes.w ≤ 16) × (d.count ≡ r.count) }
+    ensures { result ≡ row3 r d.entry.words.now list.now }
 {
     if list_capacity(r, list) < r.entries {
         return false;
     }
     let k = (r.entries as usize) * ranges::entry_words(r.sizes);
-    let x = slices::users_up_to(words, r.count, list, k);
-    let y = conditions::is_user(words, r.count, r.asserted);
-    let z = conditions::is_user(words, r.count, r.checked);
+    let x = slices::all_users(d, &list[..k]);
+    let y = conditions::is_user(d, r.asserted);
+    let z = conditions::is_user(d, r.checked);
     x & y & z
 }
 
-// The first of rows 1 to 3 that refuses an access, or 0.
-pub fn memory_row(r: Fields, words: &[u32], list: &[u32]) -> u32
-    ensures { result ≡ first_row (memory_rows r words.now list.now []) }
+// Rows 1 to 3 of an access.
+pub fn memory_row(r: Fields, words: &[u32], list: &[u32]) -> Result<(), Refusal>
+    ensures { row_of result ≡ first_row (memory_rows r words.now list.now []) }
 {
-    let k = store_row(r, words);
-    if k != 0 {
-        return k;
+    let d = store_row(r, words)?;
+    if !has_valid_list(r, d, list) {
+        return Err(Refusal::Contents);
     }
-    if has_valid_list(r, words, list) { 0 } else { 3 }
+    Ok(())
 }
 
-// The row, 5 or 6, that refuses the arguments of an access, or 0: words of control with k pairs, an address, and data of m pairs.
+// Rows 5 and 6 of the arguments of an access: words of control with k pairs, an address, and data of m pairs.
 pub fn argument_row(
     r: Fields,
     words: &[u32],
@@ -119,23 +112,30 @@ pub fn argument_row(
     address: &[u32],
     data: &[u32],
     m: usize,
-) -> u32
+) -> Result<(), Refusal>
     requires { Standard words.now r.count × (r.sizes.n ≤ 8) × (length address.now ≡ address_words r) × (2 * k ≤ length control.now) × (k ≤ 16) × (2 * m ≤ length «data».now) × (m ≤ 16) }
-    ensures { result ≡ first_row (argument_rows r words.now control.now k address.now «data».now m) }
+    ensures { row_of result ≡ first_row (argument_rows r words.now control.now k address.now «data».now m) }
 {
-    let x = slices::users_up_to(words, r.count, control, control.len());
-    let y = slices::users_up_to(words, r.count, address, address.len());
-    let z = slices::users_up_to(words, r.count, data, data.len());
+    let d = Diagrams {
+        words,
+        count: r.count,
+    };
+    let x = slices::all_users(d, control);
+    let y = slices::all_users(d, address);
+    let z = slices::all_users(d, data);
     if !(x & y & z) {
-        return 5;
+        return Err(Refusal::Nodes);
     }
-    let x = slices::legal_pairs(words, r.count, control, k);
-    let y = slices::legal_pairs(words, r.count, address, r.sizes.n as usize);
-    let z = slices::legal_pairs(words, r.count, data, m);
-    if x & y & z { 0 } else { 6 }
+    let x = slices::legal_pairs(d, control, k);
+    let y = slices::legal_pairs(d, address, r.sizes.n as usize);
+    let z = slices::legal_pairs(d, data, m);
+    if !(x & y & z) {
+        return Err(Refusal::Neither);
+    }
+    Ok(())
 }
 
-// The row that refuses a check of a valid memory, or 0; of an assert its rows up to 6.
+// The rows of a check of a valid memory; of an assert those up to 6.
 pub fn check_row(
     r: Fields,
     words: &[u32],
@@ -143,9 +143,9 @@ pub fn check_row(
     b: ControlNode,
     address: &[u32],
     data: &[u32],
-) -> u32
+) -> Result<(), Refusal>
     requires { Valid (state_of r words.now list.now) × (length address.now ≡ address_words r) × (length «data».now ≡ cell_words r) }
-    ensures { result ≡ first_row (check_rows r words.now list.now b.0 address.now «data».now) }
+    ensures { row_of result ≡ first_row (check_rows r words.now list.now b.0 address.now «data».now) }
 {
     let control: [u32; 1] = [b.0];
     argument_row(r, words, &control, 0, address, data, r.sizes.w as usize)

@@ -1,12 +1,7 @@
 -- The search ends at the first match, and in one way; and how many nodes it compares.
-use mathlib.Core.Path.{◌≡◌, refl, sym, ap, ◌∙◌}
-use mathlib.Core.Bool.{Bool, true, false, true≢false}
-use Prim.Native.Nat.{ℕ, zero, suc, ◌+◌, ◌-◌, ◌<◌}
-use native.Mathlib.Omega.{arith}
-use native.Mathlib.Decide.{dec_lt, ℕ_discrete}
+use Rattle.std.proofs.Common.{◌≡◌, refl, sym, ap, ◌∙◌, Bool, true, false, true≢false, ℕ, zero, suc, ◌+◌, ◌-◌, ◌<◌, arith, Option, Some, None}
+use Rattle.std.proofs.Math.Decide.{dec_lt, ℕ_discrete}
 use Rattle.nodes.proofs.BoolLaws.{split}
-use Rattle.search.specs.declared.Found.{Found}
-use Rattle.search.specs.declared.Found.TheVariants.{At, Nowhere}
 use Rattle.search.specs.Search.{compare_from}
 use Rattle.search.specs.Told.{NoMatch, Ends, last_of}
 
@@ -19,13 +14,13 @@ module _ (p : ℕ → Bool) where
       dec (no q) = h m (omega arith) b
 
   -- one node that is no match, and then what the others come to
-  ends_later : (i c : ℕ) (f : Found) → p i ≡ false → Ends p (suc i) c f → Ends p i c f
+  ends_later : (i c : ℕ) (f : Option ℕ) → p i ≡ false → Ends p (suc i) c f → Ends p i c f
   unfolding Ends
-  ends_later i c (At n) e h = (omega (arith, h.0), h.1, h.2, none_more i n e h.3)
-  ends_later i c Nowhere e h = none_more i c e h
+  ends_later i c (Some n) e h = (omega (arith, h.0), h.1, h.2, none_more i n e h.3)
+  ends_later i c None e h = none_more i c e h
 
   -- a match at the beginning
-  ends_here : (i c : ℕ) → i < c → p i ≡ true → Ends p i c (At i)
+  ends_here : (i c : ℕ) → i < c → p i ≡ true → Ends p i c (Some i)
   unfolding Ends
   ends_here i c h e = (omega arith, h, e, λ m a b. absurd (omega arith))
 
@@ -46,14 +41,14 @@ module _ (p : ℕ → Bool) where
       split (p i) (λ t. rw t (omega arith)) (λ t. rw t (omega (arith, ih)))
 
   -- one search ends in one way
-  pub ends-once : (i c : ℕ) (f f' : Found) → Ends p i c f → Ends p i c f' → f ≡ f'
+  pub ends-once : (i c : ℕ) (f f' : Option ℕ) → Ends p i c f → Ends p i c f' → f ≡ f'
   unfolding Ends
-  ends-once i c (At n) (At m) h h' = dec (dec_lt n m) (dec_lt m n)
+  ends-once i c (Some n) (Some m) h h' = dec (dec_lt n m) (dec_lt m n)
     where
-      dec : Dec (n < m) → Dec (m < n) → At n ≡ At m
+      dec : Dec (n < m) → Dec (m < n) → Some n ≡ Some m
       dec (yes a) b = absurd (true≢false (sym h.2 ∙ h'.3 n h.0 a))
       dec (no a) (yes b) = absurd (true≢false (sym h'.2 ∙ h.3 m h'.0 b))
-      dec (no a) (no b) = let e : n ≡ m = omega arith in ap At e
-  ends-once i c (At n) Nowhere h h' = absurd (true≢false (sym h.2 ∙ h' n h.0 h.1))
-  ends-once i c Nowhere (At m) h h' = absurd (true≢false (sym h'.2 ∙ h m h'.0 h'.1))
-  ends-once i c Nowhere Nowhere h h' = refl
+      dec (no a) (no b) = let e : n ≡ m = omega arith in ap Some e
+  ends-once i c (Some n) None h h' = absurd (true≢false (sym h.2 ∙ h' n h.0 h.1))
+  ends-once i c None (Some m) h h' = absurd (true≢false (sym h'.2 ∙ h m h'.0 h'.1))
+  ends-once i c None None h h' = refl

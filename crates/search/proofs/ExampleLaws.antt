@@ -1,5 +1,5 @@
 -- The search computes what was worked out by hand.
-use mathlib.Core.Path.{refl}
+use Rattle.std.proofs.Common.{refl}
 use Rattle.nodes.specs.Words.{has_words}
 use Rattle.search.specs.Search.{compare_from, Search}
 use Rattle.search.specs.Examples.{ByHand}

@@ -1,18 +1,12 @@
 -- "The lowest node with those words": where it can stand, that it is the only one, and that the search finds it.
-use mathlib.Core.Path.{◌≡◌, sym, ◌∙◌}
-use mathlib.Core.Bool.{true, false}
-use mathlib.Core.List.{List}
-use Prim.Native.Nat.{ℕ, ◌+◌, ◌<◌, ◌≤◌, max}
-use native.Mathlib.Omega.{arith}
-use native.Mathlib.Decide.{dec_lt}
-use borrow.Author.Tests.{lt-ltb, le-ltb}
+use Rattle.std.proofs.Common.{◌≡◌, sym, ◌∙◌, true, false, List, ℕ, ◌+◌, ◌<◌, ◌≤◌, max, arith, Some, None, lt-ltb, le-ltb}
+use Rattle.std.proofs.Math.Decide.{dec_lt}
 use Rattle.nodes.specs.Words.{has_words}
 use Rattle.nodes.specs.Standard.{Standard, lowest}
 use Rattle.nodes.proofs.BoolLaws.{split}
 use Rattle.nodes.proofs.SearchLaws.{seek_hit, seek_miss, seek-first}
 use Rattle.nodes.proofs.WordsLaws.{Has, words_has, has_words_lem}
 use Rattle.nodes.proofs.GrowthLaws.{inner}
-use Rattle.search.specs.declared.Found.TheVariants.{At, Nowhere}
 use Rattle.search.specs.Search.{Search}
 use Rattle.search.specs.Told.{Ends, found_below}
 use Rattle.search.proofs.EndsLaws.{ends-once}
@@ -53,27 +47,27 @@ module _ {w : List ℕ} {c v lo hi : ℕ} (g : Standard w c) (small : v < 64) wh
   lowest_is n h p = seek-first (has_words w v lo hi) c 0 n (omega arith) (omega arith) (has_words_lem w v lo hi n p) (λ m a b. none_before n h p m b)
 
 -- a number as what a search found
-below_at : (c l : ℕ) {n : ℕ} → found_below c l ≡ At n → (n ≡ l) × (n < c)
+below_at : (c l : ℕ) {n : ℕ} → found_below c l ≡ Some n → (n ≡ l) × (n < c)
 unfolding found_below
 below_at c l {n} e = dec (dec_lt l c)
   where
     dec : Dec (l < c) → (n ≡ l) × (n < c)
     dec (yes h) =
-        let z : At l ≡ At n = rw (lt-ltb l c h) at e in
+        let z : Some l ≡ Some n = rw (lt-ltb l c h) at e in
         let y : n ≡ l = cc in
         (y, omega arith)
     dec (no h) =
-        let z : Nowhere ≡ At n = rw (le-ltb l c (omega arith)) at e in
+        let z : None ≡ Some n = rw (le-ltb l c (omega arith)) at e in
         let y : ◌≡◌ {A = ℕ} 0 1 = cc in
         absurd (omega arith)
 
-below-nowhere : (c l : ℕ) → found_below c l ≡ Nowhere → c ≤ l
+below-nowhere : (c l : ℕ) → found_below c l ≡ None → c ≤ l
 unfolding found_below
 below-nowhere c l e = dec (dec_lt l c)
   where
     dec : Dec (l < c) → c ≤ l
     dec (yes h) =
-        let z : At l ≡ Nowhere = rw (lt-ltb l c h) at e in
+        let z : Some l ≡ None = rw (lt-ltb l c h) at e in
         let y : ◌≡◌ {A = ℕ} 0 1 = cc in
         absurd (omega arith)
     dec (no h) = omega arith
@@ -94,8 +88,8 @@ module _ {w : List ℕ} {c v : ℕ} (lo hi : ℕ) (g : Standard w c) (small : v 
   search-lowest = ends-once (has_words w v lo hi) (max lo hi + 1) c _ _ (search-told w c v lo hi).ends (lowest-ends (dec_lt _ _))
 
   -- so a node that it found is the lowest, and where it found none there is none
-  pub found_at : {n : ℕ} → (Search w c v lo hi).found ≡ At n → (n ≡ lowest w c v lo hi) × (n < c)
+  pub found_at : {n : ℕ} → (Search w c v lo hi).found ≡ Some n → (n ≡ lowest w c v lo hi) × (n < c)
   found_at e = below_at c (lowest w c v lo hi) (sym search-lowest ∙ e)
 
-  pub found_nowhere : (Search w c v lo hi).found ≡ Nowhere → c ≤ lowest w c v lo hi
+  pub found_nowhere : (Search w c v lo hi).found ≡ None → c ≤ lowest w c v lo hi
   found_nowhere e = below-nowhere c (lowest w c v lo hi) (sym search-lowest ∙ e)

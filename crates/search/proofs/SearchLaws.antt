@@ -1,7 +1,5 @@
 -- The search tells what 02 says, and nothing else does.
-use mathlib.Core.Path.{◌≡◌}
-use mathlib.Core.List.{List}
-use Prim.Native.Nat.{ℕ}
+use Rattle.std.proofs.Common.{◌≡◌, List, ℕ}
 use Rattle.search.specs.declared.Searched.{Searched}
 use Rattle.search.specs.Search.{Search}
 use Rattle.search.specs.Told.{Told}

@@ -1,11 +1,7 @@
 -- The search tells what 02 says, and two answers that do are one.
-use mathlib.Core.Path.{◌≡◌, refl, sym, ap, ◌∙◌}
-use mathlib.Core.List.{List}
-use Prim.Native.Nat.{ℕ, suc, ◌+◌, ◌-◌, ◌<◌, max}
-use native.Mathlib.Omega.{arith}
-use native.Mathlib.Decide.{dec_lt}
+use Rattle.std.proofs.Common.{◌≡◌, refl, sym, ap, ◌∙◌, List, ℕ, suc, ◌+◌, ◌-◌, ◌<◌, max, arith, Option}
+use Rattle.std.proofs.Math.Decide.{dec_lt}
 use Rattle.nodes.specs.Words.{has_words}
-use Rattle.search.specs.declared.Found.{Found}
 use Rattle.search.specs.declared.Searched.{Searched}
 use Rattle.search.specs.Search.{compare_from, Search}
 use Rattle.search.specs.Told.{last_of, Told}
@@ -18,8 +14,8 @@ module _ {w : List ℕ} {c v low high : ℕ} where
     where
       same : r.found ≡ r'.found → r ≡ r'
       same e =
-          let q : r.compared ≡ r'.compared = T.tells ∙ ap (λ (f : Found). last_of c f - max low high) e ∙ sym T'.tells in
-          ap (λ (f : Found). record { found = f; compared = r.compared }) e ∙ ap (λ (n : ℕ). record { found = r'.found; compared = n }) q
+          let q : r.compared ≡ r'.compared = T.tells ∙ ap (λ (f : Option ℕ). last_of c f - max low high) e ∙ sym T'.tells in
+          ap (λ (f : Option ℕ). record { found = f; compared = r.compared }) e ∙ ap (λ (n : ℕ). record { found = r'.found; compared = n }) q
 
 -- 02's sentences are true of the search, on any words
 module _ (w : List ℕ) (c v low high : ℕ) where

@@ -1,7 +1,6 @@
 -- 02, job 4: searches worked out by hand.
-use Rattle.std.specs.Prelude.{◌≡◌, List, [], ◌∷◌, ℕ}
+use Rattle.std.specs.Prelude.{◌≡◌, List, [], ◌∷◌, ℕ, Some, None}
 use Rattle.search.specs.declared.Searched.{Searched}
-use Rattle.search.specs.declared.Found.TheVariants.{At, Nowhere}
 use Rattle.search.specs.Search.{Search}
 
 -- nodes 0 and 1, two variables' nodes on the same children, two nodes above them, variable 8's, and the words of node 4 again
@@ -10,10 +9,10 @@ eight =
     64 ∷ 0 ∷ 0 ∷ 64 ∷ 1 ∷ 1 ∷ 10 ∷ 0 ∷ 1 ∷ 11 ∷ 0 ∷ 1 ∷ 8 ∷ 2 ∷ 3 ∷ 8 ∷ 3 ∷ 2 ∷ 8 ∷ 0 ∷ 1 ∷ 8 ∷ 2 ∷ 3 ∷ []
 
 abbrev pub at : ℕ → ℕ → Searched
-at n k = record { found = At n; compared = k }
+at n k = record { found = Some n; compared = k }
 
 abbrev pub nowhere : ℕ → Searched
-nowhere k = record { found = Nowhere; compared = k }
+nowhere k = record { found = None; compared = k }
 
 pub record ByHand : Type 0 where
   -- above node 3: node 4 is the match, the first node compared; and so it is where node 7 has its words again

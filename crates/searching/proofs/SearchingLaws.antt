@@ -1,12 +1,7 @@
 -- How far a search came, and what it then tells.
-use mathlib.Core.Path.{◌≡◌}
-use mathlib.Core.Bool.{true, false}
-use mathlib.Core.List.{List}
-use Prim.Native.Nat.{ℕ, ◌+◌, ◌-◌, ◌<◌, ◌≤◌, max}
-use native.Mathlib.Omega.{arith}
-use native.Mathlib.Decide.{dec_lt, ℕ_discrete}
+use Rattle.std.proofs.Common.{◌≡◌, true, false, List, ℕ, ◌+◌, ◌-◌, ◌<◌, ◌≤◌, max, arith, Some, None}
+use Rattle.std.proofs.Math.Decide.{dec_lt, ℕ_discrete}
 use Rattle.nodes.specs.Words.{has_words}
-use Rattle.search.specs.declared.Found.TheVariants.{At, Nowhere}
 use Rattle.search.specs.Search.{Search}
 use Rattle.search.specs.Told.{NoMatch, Ends, last_of}
 use Rattle.search.proofs.SearchLaws.{told_is}
@@ -32,10 +27,10 @@ module _ {w : List ℕ} {c v low high i : ℕ} (C : Came w c v low high i) where
       dec m a b (no l) (yes q) = rw q at f
       dec m a b (no l) (no q) = children_differ w v low high m (P.none m (omega arith) b)
 
-  pub came_at : {n : ℕ} → i < c → has_words w v low high i ≡ true → n ≡ i - max low high → record { found = At i; compared = n } ≡ Search w c v low high
+  pub came_at : {n : ℕ} → i < c → has_words w v low high i ≡ true → n ≡ i - max low high → record { found = Some i; compared = n } ≡ Search w c v low high
   unfolding Ends last_of
   came_at h t e = told_is (record { ends = (omega (arith, C.above), h, t, C.none); tells = e })
 
-  pub came-nowhere : {n : ℕ} → c ≤ i → n ≡ c - 1 - max low high → record { found = Nowhere; compared = n } ≡ Search w c v low high
+  pub came-nowhere : {n : ℕ} → c ≤ i → n ≡ c - 1 - max low high → record { found = None; compared = n } ≡ Search w c v low high
   unfolding Ends last_of
   came-nowhere h e = told_is (record { ends = λ m a b. C.none m a (omega arith); tells = e })

@@ -1,7 +1,5 @@
 -- Texts worked out.
-use mathlib.Core.Path.{◌≡◌, refl}
-use mathlib.Core.List.{List, [], ◌∷◌}
-use Prim.Native.Nat.{ℕ}
+use Rattle.std.proofs.Common.{◌≡◌, refl, List, [], ◌∷◌, ℕ}
 use Rattle.text.specs.Decimal.{digits, decimal}
 use Rattle.diagrams.specs.Value.{grow, tree_of}
 use Rattle.show.specs.Show.{show, text_of}

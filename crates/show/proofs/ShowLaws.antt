@@ -1,13 +1,7 @@
 -- A condition's text tells its tree, and how it is put together.
-use mathlib.Core.Path.{◌≡◌, refl, ap}
-use mathlib.Core.Bool.{true, false}
-use mathlib.Core.List.{List, [], ◌∷◌, ◌++◌, append_assoc}
-use Prim.Native.Nat.{ℕ, zero, suc, ◌+◌, ◌<◌, ◌≤◌}
-use native.Mathlib.Omega.{arith}
-use Rattle.text.specs.Text.{Out, appended}
+use Rattle.std.proofs.Common.{◌≡◌, refl, ap, true, false, List, [], ◌∷◌, ◌++◌, append_assoc, ℕ, zero, suc, ◌+◌, ◌<◌, ◌≤◌, arith}
 use Rattle.text.specs.Decimal.{decimal}
 use Rattle.text.proofs.ByteLaws.{heads, tails}
-use Rattle.text.proofs.TextLaws.{appended-append}
 use Rattle.text.proofs.DecimalLaws.{decimal-then}
 use Rattle.nodes.specs.Words.{var_at, low_at, high_at}
 use Rattle.nodes.specs.Standard.{Standard}
@@ -51,18 +45,15 @@ text_end w zero h = rw (tree_end w 0 h)
 text_end w (suc zero) h = rw (tree_end w 1 h)
 text_end w (suc (suc n)) h = absurd (omega arith)
 
--- a branch's text in its seven parts
-appended-branch : (v : ℕ) (l h : Tree) (o : Out) → appended (show (branch v l h)) o
-    ≡ appended (41 ∷ []) (appended (show h) (appended (32 ∷ []) (appended (show l) (appended (32 ∷ []) (appended (decimal v) (appended (40 ∷ []) o))))))
-unfolding show appended
-appended-branch v l h o = simp appended-append
+-- the text of a node from 2 up, by what was read of its words
+pub node-text : {w : List ℕ} {c : ℕ} → Standard w c → (n : ℕ) → 2 ≤ n → n < c → {v low high : ℕ} → v ≡ var_at w n → low ≡ low_at w n → high ≡ high_at w n
+    → text_of w n ≡ 40 ∷ decimal v ++ 32 ∷ text_of w low ++ 32 ∷ text_of w high ++ 41 ∷ []
+unfolding show
+node-text g n l h ev el eh = rw (tree-node g n l h, ev, el, eh) refl
 
--- the children that were read of a node from 2 up are below it
-pub children-below : {w : List ℕ} {c : ℕ} → Standard w c → (n : ℕ) → 2 ≤ n → n < c → {low high : ℕ} → low ≡ low_at w n → high ≡ high_at w n → (low < n) × (high < n)
-children-below g n l h el eh = (rw el ((g.shape n l h).below false), rw eh ((g.shape n l h).below true))
+-- the children of a node from 2 up are below it
+pub low_below : {w : List ℕ} {c : ℕ} (n : ℕ) → Standard w c → 2 ≤ n → n < c → low_at w n < n
+low_below n g l h = (g.shape n l h).below false
 
--- the seven steps that print a node from 2 up, by what was read of its words
-pub node-steps : {w : List ℕ} {c : ℕ} → Standard w c → (n : ℕ) → 2 ≤ n → n < c → {v low high : ℕ} → v ≡ var_at w n → low ≡ low_at w n → high ≡ high_at w n
-    → (o : Out) {o₁ o₂ o₃ o₄ o₅ o₆ o₇ : Out} → o₁ ≡ appended (40 ∷ []) o → o₂ ≡ appended (decimal v) o₁ → o₃ ≡ appended (32 ∷ []) o₂ → o₄ ≡ appended (text_of w low) o₃
-    → o₅ ≡ appended (32 ∷ []) o₄ → o₆ ≡ appended (text_of w high) o₅ → o₇ ≡ appended (41 ∷ []) o₆ → o₇ ≡ appended (text_of w n) o
-node-steps {w} g n l h ev el eh o e₁ e₂ e₃ e₄ e₅ e₆ e₇ = cc (tree-node g n l h, appended-branch (var_at w n) (tree_of w (low_at w n)) (tree_of w (high_at w n)) o)
+pub high_below : {w : List ℕ} {c : ℕ} (n : ℕ) → Standard w c → 2 ≤ n → n < c → high_at w n < n
+high_below n g l h = (g.shape n l h).below true

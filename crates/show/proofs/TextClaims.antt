@@ -1,10 +1,6 @@
 -- Demand 2: "the text of a condition is the same for two conditions exactly when they agree under every assignment".
 -- The two conditions may be of two stores. Within one store they are then one node.
-use mathlib.Core.Path.{◌≡◌, sym, ap, ◌∙◌}
-use mathlib.Core.Bool.{Bool}
-use mathlib.Core.Logic.{◌↔◌}
-use mathlib.Core.List.{List}
-use Prim.Native.Nat.{ℕ, ◌<◌}
+use Rattle.std.proofs.Common.{◌≡◌, sym, ap, ◌∙◌, Bool, ◌↔◌, List, ℕ, ◌<◌}
 use Rattle.nodes.specs.Standard.{Standard}
 use Rattle.diagrams.specs.Value.{eval, tree_of, value}
 use Rattle.diagrams.specs.Assignment.{bit_at, number_of}

@@ -2,13 +2,14 @@
 #![tactic(auto)]
 
 mod changes;
-mod digest;
+mod elements;
 
-ghost use Rattle.std.specs.Prelude.{◌≡◌, ◌≤◌, ◌∷◌, ◌+◌, ◌*◌, length, decimal, IfOk, OnOk};
+ghost use Rattle.std.specs.Prelude.{◌≡◌, ◌≤◌, ◌∷◌, ◌+◌, ◌*◌, decimal, OnOk};
 ghost use Rattle.std.specs.Io.KnownBytes.{Appends};
 
-pub use changes::{changed, changed_ports};
-pub use digest::{digest_bytes, digest_words};
+pub use changes::changed;
+pub use elements::{Element, digest};
+pub use input::read_full;
 use std::io;
 use std::io::{Read, Write};
 
@@ -16,7 +17,7 @@ pub type Words = [u32; 49160];
 
 pub type Bytes = [u8; 65600];
 
-// What the numbers say is said by the program that reads them; a kind of 0 is the end of the input.
+// What the numbers say is said by the program that reads them.
 #[derive(Clone, Copy)]
 pub struct Item {
     pub kind: u32,
@@ -29,32 +30,31 @@ pub struct Item {
     pub g: u32,
 }
 
-// Reads until buf is full or the input ends, and returns how many bytes it put at the start of buf.
-pub fn read_full<R: Read>(input: &mut R, buf: &mut [u8]) -> io::Result<usize>
-    ensures { IfOk result (λ n. n ≤ length buf.new) }
-{
-    let mut done: usize = 0;
-    while done < buf.len() {
-        let more = input.read(&mut buf[done..])?;
-        if more == 0 {
-            break;
-        }
-        done += more;
-    }
-    Ok(done)
+// What an item is by its kind: the end of the input, elements to put into a buffer, a record, or what is the program's own.
+#[derive(Clone, Copy, PartialEq, Eq)]
+pub enum Kind {
+    End,
+    Put,
+    Record,
+    Own,
 }
 
-fn joined(a: u8, b: u8, c: u8, d: u8) -> u32
-    ensures { result ≡ a + 256 * b + 65536 * c + 16777216 * d }
-{
-    a as u32 + 256 * (b as u32) + 65536 * (c as u32) + 16777216 * (d as u32)
+impl From<u32> for Kind {
+    fn from(kind: u32) -> Kind {
+        match kind {
+            0 => Kind::End,
+            9 => Kind::Put,
+            10 => Kind::Record,
+            _ => Kind::Own,
+        }
+    }
 }
 
 // The next number, 0 past the end.
 pub fn number<R: Read>(input: &mut R) -> io::Result<u32> {
     let mut b = [0u8; 4];
     read_full(input, &mut b)?;
-    Ok(joined(b[0], b[1], b[2], b[3]))
+    Ok(u32::from_le_bytes(b))
 }
 
 pub fn next<R: Read>(input: &mut R) -> io::Result<Item> {
@@ -70,50 +70,31 @@ pub fn next<R: Read>(input: &mut R) -> io::Result<Item> {
     })
 }
 
-// Puts a word at a place, if there is one.
-fn put_word(to: &mut [u32], at: u32, word: u32) {
-    let place = at as usize;
-    if place < to.len() {
-        to[place] = word;
-    }
-}
-
-// Puts c words from place b on: the first is e, and each next stands d places on and is more by f.
-pub fn put(x: Item, to: &mut [u32]) {
+// Puts c elements from place b on, where the buffer has those places: the first is that of the word e, and each next stands d places on, and its word is more by f.
+pub fn put<T: Element>(x: Item, to: &mut [T]) {
     let mut at = x.b;
     let mut word = x.e;
     for _ in 0..x.c {
-        put_word(to, at, word);
+        if let Some(place) = to.get_mut(at as usize) {
+            *place = T::low(word);
+        }
         at = at.wrapping_add(x.d);
         word = word.wrapping_add(x.f);
     }
 }
 
-// Puts a number's low byte at a place, if there is one.
-fn put_byte(to: &mut [u8], at: u32, number: u32) {
-    let place = at as usize;
-    if place < to.len() {
-        to[place] = (number % 256) as u8;
-    }
-}
-
-// As `put`, of bytes: each is the low byte of such a word.
-pub fn put_bytes(x: Item, to: &mut [u8]) {
-    let mut at = x.b;
-    let mut word = x.e;
-    for _ in 0..x.c {
-        put_byte(to, at, word);
-        at = at.wrapping_add(x.d);
-        word = word.wrapping_add(x.f);
-    }
+// The number of two halves.
+pub fn joined(low: u32, high: u32) -> u64
+    ensures { result ≡ low + 4294967296 * high }
+{
+    u64::from(low) + 4294967296 * u64::from(high)
 }
 
 // A length, or the most that it may be.
 pub fn length(x: u32, most: usize) -> usize
     ensures { result ≤ most }
 {
-    let k = x as usize;
-    if k < most { k } else { most }
+    most.min(x as usize)
 }
 
 pub fn bytes<W: Write>(out: &mut W, s: &[u8]) -> io::Result<()>
@@ -138,7 +119,7 @@ pub fn wide<W: Write>(out: &mut W, x: u64) -> io::Result<()>
 pub fn word<W: Write>(out: &mut W, x: u32) -> io::Result<()>
     ensures { OnOk result (Appends (W.contents out.old) (W.contents out.new) (32 ∷ decimal x)) }
 {
-    wide(out, x as u64)
+    wide(out, u64::from(x))
 }
 
 // The words of a record.

@@ -1,38 +1,32 @@
 -- The pairs of a sum, one call after another.
-use mathlib.Core.Path.{◌≡◌, refl, ap, ◌∙◌}
-use mathlib.Core.Bool.{Bool, true, false, not}
-use mathlib.Core.List.{List, [], ◌∷◌, ◌++◌, append_assoc}
-use Prim.Native.Nat.{ℕ, zero, suc, ◌+◌, ◌*◌, ◌/◌, ◌%◌, ◌^◌, ◌<◌, ◌≤◌}
-use native.Mathlib.Omega.{arith}
+use Rattle.std.proofs.Common.{◌≡◌, refl, ap, ◌∙◌, Bool, true, false, not, List, [], ◌∷◌, ◌++◌, append_assoc, ℕ, zero, suc, ◌+◌, ◌*◌, ◌/◌, ◌%◌, ◌^◌, ◌<◌, ◌≤◌, arith, eqb, length, get_or, set, take, length-set}
 use native.Mathlib.Decide.{ℕ_discrete}
-use lib.Dec.{eqb}
-use lib.ListN.{length, get_or, set, take, length-set}
 use lib.Seq.{take-suc, get_or-set_same, get_or-set_other}
-use Rattle.conditions.specs.Build.{Store, Built, next}
-use Rattle.conditions.specs.Contract.{Did}
-use Rattle.conditions.proofs.Promises.{next_is}
+use Rattle.conditions.specs.declared.builder.Builder.{Builder}
+use Rattle.conditions.specs.Builder.{Did}
+use Rattle.conditions.proofs.Promises.{later_trans, later_node, next_is}
 use Rattle.model.specs.Record.{h_at, l_at}
-use Rattle.addresses.specs.declared.AddressPair.{AddressPair}
+use Rattle.model.specs.declared.AddressNode.{AddressNode}
+use Rattle.model.specs.declared.Pair.{Pair}
 use Rattle.addresses.specs.Contract.{Nodes, address_pair}
 use Rattle.addresses.proofs.LoopLaws.{pair-nodes}
 use Rattle.unit_programs.specs.Add.{mix_half, sum_bit, carry_bit}
-use Rattle.sums.specs.declared.PairBuilt.{PairBuilt}
-use Rattle.sums.specs.Contract.{PairNodes, FirstNodes, adding, halves_of, pair_built, turned_built, either_of, sum_bit_of, add_bit_of, PairDid, BitDid}
+use Rattle.sums.specs.Contract.{PairNodes, FirstNodes, adding, halves_of, turned_pair, either_of, sum_bit_of, add_bit_of, PairDid, BitDid}
 
-module _ (a c : AddressPair) {s : Store} (w : List ℕ) {w' t' w'' t'' : List ℕ} {h l : Built} where
+module _ (a p : Pair AddressNode) {b c d : Builder} {h l : AddressNode} where
   -- x's halves, exchanged where the constant's bit is 1
-  pub sum_did : (one : Bool) → Did s w' t' h (mix_half a.h.0 a.l.0 c.l.0 c.h.0 w s) → Did h.store w'' t'' l (mix_half a.h.0 a.l.0 c.h.0 c.l.0 w' h.store)
-      → PairDid s w'' t'' (turned_built one l.store h.node l.node) (λ ws. adding (ws ++ halves_of (turned_built one l.store h.node l.node).pair) c) (λ ws. sum_bit one a.h.0 a.l.0 (adding ws c) w s)
+  pub sum_did : (one : Bool) → Did b c h.0 (mix_half a.h.0 a.l.0 p.l.0 p.h.0) → Did c d l.0 (mix_half a.h.0 a.l.0 p.h.0 p.l.0)
+      → PairDid b d (turned_pair one (record { h = h; l = l })) (λ ws. adding (ws ++ halves_of (turned_pair one (record { h = h; l = l }))) p) (λ ws. sum_bit one a.h.0 a.l.0 (adding ws p))
   unfolding sum_bit
-  sum_did false D E = record { is = λ ws. next_is _ D.is (next_is _ E.is refl); sound = E.sound; more = omega (arith, D.more, E.more); nodes = record { high = omega (arith, D.node, E.more); low = E.node } }
-  sum_did true D E = record { is = λ ws. next_is _ D.is (next_is _ E.is refl); sound = E.sound; more = omega (arith, D.more, E.more); nodes = record { high = E.node; low = omega (arith, D.node, E.more) } }
+  sum_did false D E = record { is = λ ws. next_is _ D.is (next_is _ E.is refl); later = later_trans D.later E.later; nodes = record { high = later_node E.later _ D.node; low = E.node } }
+  sum_did true D E = record { is = λ ws. next_is _ D.is (next_is _ E.is refl); later = later_trans D.later E.later; nodes = record { high = E.node; low = later_node E.later _ D.node } }
 
   -- the carry's halves
-  pub carry_did : (one : Bool) → Did s w' t' h (either_of one a.h.0 c.h.0 w s) → Did h.store w'' t'' l (either_of (not one) a.l.0 c.l.0 w' h.store)
-      → PairDid s w'' t'' (pair_built l.store h.node l.node) (λ ws. adding ws (pair_built l.store h.node l.node).pair) (λ ws. carry_bit one a.h.0 a.l.0 (adding ws c) w s)
+  pub carry_did : (one : Bool) → Did b c h.0 (either_of one a.h.0 p.h.0) → Did c d l.0 (either_of (not one) a.l.0 p.l.0)
+      → PairDid b d (record { h = h; l = l }) (λ ws. adding ws (record { h = h; l = l })) (λ ws. carry_bit one a.h.0 a.l.0 (adding ws p))
   unfolding carry_bit
-  carry_did false D E = record { is = λ ws. next_is _ D.is (next_is _ E.is refl); sound = E.sound; more = omega (arith, D.more, E.more); nodes = record { high = omega (arith, D.node, E.more); low = E.node } }
-  carry_did true D E = record { is = λ ws. next_is _ D.is (next_is _ E.is refl); sound = E.sound; more = omega (arith, D.more, E.more); nodes = record { high = omega (arith, D.node, E.more); low = E.node } }
+  carry_did false D E = record { is = λ ws. next_is _ D.is (next_is _ E.is refl); later = later_trans D.later E.later; nodes = record { high = later_node E.later _ D.node; low = E.node } }
+  carry_did true D E = record { is = λ ws. next_is _ D.is (next_is _ E.is refl); later = later_trans D.later E.later; nodes = record { high = later_node E.later _ D.node; low = E.node } }
 
 -- a pair put in its place after the pairs before it
 take-set : (l : List ℕ) (k i v : ℕ) → k ≤ i → take k (set l i v) ≡ take k l
@@ -82,29 +76,28 @@ module _ (out : List ℕ) (i h l : ℕ) (fits : 2 * i + 1 < length out) where
 pub more-first : {c c' k : ℕ} {ws : List ℕ} → c ≤ c' → FirstNodes c k ws → FirstNodes c' k ws
 more-first h F = record { at = λ j m. omega (arith, F.at j m) }
 
-pub more_pair : {c c' : ℕ} {p : AddressPair} → c ≤ c' → PairNodes c p → PairNodes c' p
+pub more_pair : {c c' : ℕ} {p : Pair AddressNode} → c ≤ c' → PairNodes c p → PairNodes c' p
 more_pair h N = record { high = omega (arith, N.high); low = omega (arith, N.low) }
 
 pub address-nodes : {c : ℕ} {a : List ℕ} → Nodes c a → (i : ℕ) → 2 * i + 1 < length a → PairNodes c (address_pair a i)
 address-nodes N i h = let q = pair-nodes N i h in record { high = q.0; low = q.1 }
 
 -- a bit of the sum put in its place
-pub place_did : (k i : ℕ) (a out : List ℕ) (c : AddressPair) {s : Store} (w : List ℕ) {w' t' : List ℕ} {x : PairBuilt} → 2 * i + 1 < length out → FirstNodes s.count (2 * i) out → PairNodes s.count c
-    → PairDid s w' t' x (λ ws. adding (ws ++ halves_of x.pair) c) (λ ws. sum_bit_of k a i (adding ws c) w s)
-    → BitDid s w' t' x.store c (i + 1) (set (set out (2 * i) x.pair.h.0) (2 * i + 1) x.pair.l.0) (sum_bit_of k a i (adding (take (2 * i) out) c) w s)
+pub place_did : (k i : ℕ) (a out : List ℕ) (c : Pair AddressNode) {b d : Builder} {x : Pair AddressNode} → 2 * i + 1 < length out → FirstNodes b.store.count (2 * i) out → PairNodes b.store.count c
+    → PairDid b d x (λ ws. adding (ws ++ halves_of x) c) (λ ws. sum_bit_of k a i (adding ws c))
+    → BitDid b d c (i + 1) (set (set out (2 * i) x.h.0) (2 * i + 1) x.l.0) (sum_bit_of k a i (adding (take (2 * i) out) c))
 unfolding put
-place_did k i a out c w {w'} {x = x} fits F C D =
+place_did k i a out c {d = d} {x = x} fits F C D =
     record {
-      is = ap (λ (ws : List ℕ). record { words = w'; store = x.store; answer = adding ws c }) (put-taken out i x.pair.h.0 x.pair.l.0 fits) ∙ D.is (take (2 * i) out);
-      sound = D.sound;
-      more = D.more;
-      nodes = more_pair D.more C;
-      first = put_first out i x.pair.h.0 x.pair.l.0 fits (more-first D.more F) D.nodes.high D.nodes.low;
+      is = ap (λ (ws : List ℕ). record { words = d.words.now; store = d.store; answer = adding ws c }) (put-taken out i x.h.0 x.l.0 fits) ∙ D.is (take (2 * i) out);
+      later = D.later;
+      nodes = more_pair D.later.more C;
+      first = put_first out i x.h.0 x.l.0 fits (more-first D.later.more F) D.nodes.high D.nodes.low;
     }
 
 -- and the carry after it
-pub bit_did : (k i : ℕ) (a out out' : List ℕ) (c : AddressPair) {s u : Store} (w : List ℕ) {w' t' w'' t'' : List ℕ} {r : PairBuilt} → BitDid s w' t' u c (i + 1) out' (sum_bit_of k a i (adding (take (2 * i) out) c) w s)
-    → PairDid u w'' t'' r (λ ws. adding ws r.pair) (λ ws. carry_bit (eqb (k / 2 ^ i % 2) 1) (h_at a i) (l_at a i) (adding ws c) w' u)
-    → BitDid s w'' t'' r.store r.pair (i + 1) out' (add_bit_of k a i (adding (take (2 * i) out) c) w s)
-bit_did k i a out out' c w D E =
-    record { is = next_is _ D.is (E.is (take (2 * (i + 1)) out')); sound = E.sound; more = omega (arith, D.more, E.more); nodes = E.nodes; first = more-first E.more D.first }
+pub bit_did : (k i : ℕ) (a out out' : List ℕ) (c : Pair AddressNode) {b d e : Builder} {r : Pair AddressNode} → BitDid b d c (i + 1) out' (sum_bit_of k a i (adding (take (2 * i) out) c))
+    → PairDid d e r (λ ws. adding ws r) (λ ws. carry_bit (eqb (k / 2 ^ i % 2) 1) (h_at a i) (l_at a i) (adding ws c))
+    → BitDid b e r (i + 1) out' (add_bit_of k a i (adding (take (2 * i) out) c))
+bit_did k i a out out' c D E =
+    record { is = next_is _ D.is (E.is (take (2 * (i + 1)) out')); later = later_trans D.later E.later; nodes = E.nodes; first = more-first E.later.more D.first }

@@ -2,22 +2,15 @@
 #![tactic(auto)]
 
 ghost use Rattle.std.specs.Prelude.{◌≡◌, ◌++◌, ◌+◌, ◌*◌, ◌/◌, ◌%◌, ◌^◌, ◌<◌, ◌≤◌, eqb, length, set, take};
-ghost use Rattle.conditions.specs.Contract.{Sound, Did};
+ghost use Rattle.conditions.specs.Builder.{Did};
 ghost use Rattle.units.specs.Sum.{bits_of};
 ghost use Rattle.unit_programs.specs.Add.{mix_half, sum_bit, carry_bit, Add};
-ghost use Rattle.addresses.specs.Contract.{Nodes, WordDid};
-ghost use Rattle.sums.specs.Contract.{PairNodes, FirstNodes, adding, halves_of, pair_built, turned_built, either_of, sum_bit_of, add_bit_of, PairDid, BitDid};
+ghost use Rattle.addresses.specs.Contract.{Nodes};
+ghost use Rattle.addresses.specs.Words.{WordDid};
+ghost use Rattle.sums.specs.Contract.{PairNodes, FirstNodes, adding, halves_of, turned_pair, either_of, sum_bit_of, add_bit_of, PairDid, BitDid};
 
-use addresses::AddressPair;
-use conditions::{Built, Store, Table};
-use model::AddressNode;
-
-// A pair of an address that was built, and the store then.
-#[derive(Clone, Copy)]
-pub struct PairBuilt {
-    pub store: Store,
-    pub pair: AddressPair,
-}
+use conditions::Builder;
+use model::{AddressNode, Pair};
 
 // Bit i of a constant.
 fn bit_at(k: u32, i: usize) -> bool
@@ -29,97 +22,69 @@ fn bit_at(k: u32, i: usize) -> bool
 
 // Ite(a.h, Or(a.l, other), own)
 fn mix_half(
-    words: &mut [u32],
-    table: &mut Table,
-    s: Store,
-    a: AddressPair,
+    build: &mut Builder,
+    a: Pair<AddressNode>,
     other: AddressNode,
     own: AddressNode,
-) -> Built
-    requires { Sound words.old table.old s × PairNodes s.count a × (other.0 < s.count) × (own.0 < s.count) }
-    ensures { Did s words.new table.new result (mix_half a.h.0 a.l.0 other.0 own.0 words.old s) }
+) -> AddressNode
+    requires { PairNodes build.old.store.count a × (other.0 < build.old.store.count) × (own.0 < build.old.store.count) }
+    ensures { Did build.old build.new result.0 (mix_half a.h.0 a.l.0 other.0 own.0) }
 {
-    let x = conditions::or(words, table, s, a.l.0, other.0);
-    conditions::ite(words, table, x.store, a.h.0, x.node, own.0)
+    let x = build.or(a.l.0, other.0);
+    AddressNode(build.ite(a.h.0, x, own.0))
 }
 
-// Two nodes as a pair.
-fn paired(s: Store, h: u32, l: u32) -> PairBuilt
-    ensures { result ≡ pair_built s h l }
+// A pair, exchanged where a bit of the constant is 1.
+fn turn(one: bool, p: Pair<AddressNode>) -> Pair<AddressNode>
+    ensures { result ≡ turned_pair one p }
 {
-    let pair = AddressPair {
-        h: AddressNode(h),
-        l: AddressNode(l),
-    };
-    PairBuilt { store: s, pair }
+    if one { Pair { h: p.l, l: p.h } } else { p }
 }
 
-// A bit of the sum from x's halves, which a bit of the constant that is 1 exchanges.
-fn turn(one: bool, s: Store, h: u32, l: u32) -> PairBuilt
-    ensures { result ≡ turned_built one s h l }
-{
-    if one {
-        paired(s, l, h)
-    } else {
-        paired(s, h, l)
-    }
-}
-
-// A bit of the sum of a pair and the carry c.
+// A bit of the sum of a pair and the carry c: x, which a bit of the constant that is 1 exchanges.
 fn sum_bit(
-    words: &mut [u32],
-    table: &mut Table,
-    s: Store,
+    build: &mut Builder,
     one: bool,
-    a: AddressPair,
-    c: AddressPair,
-) -> PairBuilt
-    requires { Sound words.old table.old s × PairNodes s.count a × PairNodes s.count c }
-    ensures { PairDid s words.new table.new result (λ ws. adding (ws ++ halves_of result.pair) c) (λ ws. sum_bit one a.h.0 a.l.0 (adding ws c) words.old s) }
+    a: Pair<AddressNode>,
+    c: Pair<AddressNode>,
+) -> Pair<AddressNode>
+    requires { PairNodes build.old.store.count a × PairNodes build.old.store.count c }
+    ensures { PairDid build.old build.new result (λ ws. adding (ws ++ halves_of result) c) (λ ws. sum_bit one a.h.0 a.l.0 (adding ws c)) }
 {
-    let h = mix_half(words, table, s, a, c.l, c.h);
-    let l = mix_half(words, table, h.store, a, c.h, c.l);
-    turn(one, l.store, h.node, l.node)
+    let h = mix_half(build, a, c.l, c.h);
+    let l = mix_half(build, a, c.h, c.l);
+    turn(one, Pair { h, l })
 }
 
 // Or of two nodes, or And of them.
-fn either(
-    words: &mut [u32],
-    table: &mut Table,
-    s: Store,
-    or: bool,
-    f: AddressNode,
-    g: AddressNode,
-) -> Built
-    requires { Sound words.old table.old s × (f.0 < s.count) × (g.0 < s.count) }
-    ensures { Did s words.new table.new result (either_of or f.0 g.0 words.old s) }
+fn either(build: &mut Builder, or: bool, f: AddressNode, g: AddressNode) -> AddressNode
+    requires { (f.0 < build.old.store.count) × (g.0 < build.old.store.count) }
+    ensures { Did build.old build.new result.0 (either_of or f.0 g.0) }
 {
-    if or {
-        conditions::or(words, table, s, f.0, g.0)
+    AddressNode(if or {
+        build.or(f.0, g.0)
     } else {
-        conditions::and(words, table, s, f.0, g.0)
-    }
+        build.and(f.0, g.0)
+    })
 }
 
 // The carry after a pair: (And(a.h, c.h), Or(a.l, c.l)), or (Or(a.h, c.h), And(a.l, c.l)) where the constant's bit is 1.
 fn carry_bit(
-    words: &mut [u32],
-    table: &mut Table,
-    s: Store,
+    build: &mut Builder,
     one: bool,
-    a: AddressPair,
-    c: AddressPair,
-) -> PairBuilt
-    requires { Sound words.old table.old s × PairNodes s.count a × PairNodes s.count c }
-    ensures { PairDid s words.new table.new result (λ ws. adding ws result.pair) (λ ws. carry_bit one a.h.0 a.l.0 (adding ws c) words.old s) }
+    a: Pair<AddressNode>,
+    c: Pair<AddressNode>,
+) -> Pair<AddressNode>
+    requires { PairNodes build.old.store.count a × PairNodes build.old.store.count c }
+    ensures { PairDid build.old build.new result (λ ws. adding ws result) (λ ws. carry_bit one a.h.0 a.l.0 (adding ws c)) }
 {
-    let h = either(words, table, s, one, a.h, c.h);
-    let l = either(words, table, h.store, !one, a.l, c.l);
-    paired(l.store, h.node, l.node)
+    let h = either(build, one, a.h, c.h);
+    let l = either(build, !one, a.l, c.l);
+    Pair { h, l }
 }
 
 // Pair i of the sum put in its place.
-fn put_pair(out: &mut [u32], i: usize, p: AddressPair)
+fn put_pair(out: &mut [u32], i: usize, p: Pair<AddressNode>)
     requires { 2 * i + 1 < length out.old }
     ensures { out.new ≡ set (set out.old (2 * i) p.h.0) (2 * i + 1) p.l.0 }
 {
@@ -130,63 +95,49 @@ fn put_pair(out: &mut [u32], i: usize, p: AddressPair)
 
 // Bit i of the sum in its place.
 fn place_bit(
-    words: &mut [u32],
-    table: &mut Table,
-    s: Store,
+    build: &mut Builder,
     address: &[u32],
     i: usize,
     k: u32,
-    c: AddressPair,
+    c: Pair<AddressNode>,
     out: &mut [u32],
-) -> Store
-    requires { Sound words.old table.old s × (i < 8) × (2 * i + 1 < length address.now) × Nodes s.count address.now × PairNodes s.count c × (length out.old ≡ length address.now) × FirstNodes s.count (2 * i) out.old }
-    ensures { BitDid s words.new table.new result c (i + 1) out.new (sum_bit_of k address.now i (adding (take (2 * i) out.old) c) words.old s) }
+)
+    requires { (i < 8) × (2 * i + 1 < length address.now) × Nodes build.old.store.count address.now × PairNodes build.old.store.count c × (length out.old ≡ length address.now) × FirstNodes build.old.store.count (2 * i) out.old }
+    ensures { BitDid build.old build.new c (i + 1) out.new (sum_bit_of k address.now i (adding (take (2 * i) out.old) c)) }
 {
-    let one = bit_at(k, i);
     let a = addresses::address_pair(address, i);
-    let x = sum_bit(words, table, s, one, a, c);
-    put_pair(out, i, x.pair);
-    x.store
+    let x = sum_bit(build, bit_at(k, i), a, c);
+    put_pair(out, i, x);
 }
 
 // Bit i of the sum in its place, and the carry after it.
 fn add_bit(
-    words: &mut [u32],
-    table: &mut Table,
-    s: Store,
+    build: &mut Builder,
     address: &[u32],
     i: usize,
     k: u32,
-    c: AddressPair,
+    c: Pair<AddressNode>,
     out: &mut [u32],
-) -> PairBuilt
-    requires { Sound words.old table.old s × (i < 8) × (2 * i + 1 < length address.now) × Nodes s.count address.now × PairNodes s.count c × (length out.old ≡ length address.now) × FirstNodes s.count (2 * i) out.old }
-    ensures { BitDid s words.new table.new result.store result.pair (i + 1) out.new (add_bit_of k address.now i (adding (take (2 * i) out.old) c) words.old s) }
+) -> Pair<AddressNode>
+    requires { (i < 8) × (2 * i + 1 < length address.now) × Nodes build.old.store.count address.now × PairNodes build.old.store.count c × (length out.old ≡ length address.now) × FirstNodes build.old.store.count (2 * i) out.old }
+    ensures { BitDid build.old build.new result (i + 1) out.new (add_bit_of k address.now i (adding (take (2 * i) out.old) c)) }
 {
-    let u = place_bit(words, table, s, address, i, k, c, out);
-    let one = bit_at(k, i);
+    place_bit(build, address, i, k, c, out);
     let a = addresses::address_pair(address, i);
-    carry_bit(words, table, u, one, a, c)
+    carry_bit(build, bit_at(k, i), a, c)
 }
 
 // The sum of an address and a constant, in `out`; no carry is built after the last bit.
-pub fn add(
-    words: &mut [u32],
-    table: &mut Table,
-    s: Store,
-    n: usize,
-    address: &[u32],
-    k: u32,
-    out: &mut [u32],
-) -> Store
-    requires { Sound words.old table.old s × (1 ≤ n) × (n ≤ 8) × (length address.now ≡ 2 * n) × Nodes s.count address.now × (length out.old ≡ 2 * n) }
-    ensures { WordDid s words.new table.new result out.new (Add n address.now (bits_of n k) words.old s) }
+pub fn add(build: &mut Builder, n: usize, address: &[u32], k: u32, out: &mut [u32])
+    requires { (1 ≤ n) × (n ≤ 8) × (length address.now ≡ 2 * n) × Nodes build.old.store.count address.now × (length out.old ≡ 2 * n) }
+    ensures { WordDid build.old build.new out.new (Add n address.now (bits_of n k)) }
 {
-    let mut b = paired(s, 0, 1);
-    let mut i = 0;
-    while i + 1 < n {
-        b = add_bit(words, table, b.store, address, i, k, b.pair, out);
-        i += 1;
+    let mut c = Pair {
+        h: AddressNode(0),
+        l: AddressNode(1),
+    };
+    for i in 0..n - 1 {
+        c = add_bit(build, address, i, k, c, out);
     }
-    place_bit(words, table, b.store, address, i, k, b.pair, out)
+    place_bit(build, address, n - 1, k, c, out)
 }

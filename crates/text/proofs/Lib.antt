@@ -1,3 +1,4 @@
 pub mod ByteLaws
 pub mod TextLaws
 pub mod DecimalLaws
+pub mod WriterLaws

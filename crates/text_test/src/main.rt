@@ -4,27 +4,30 @@
 ghost use Rattle.std.specs.Prelude.{◌≡◌, ◌∷◌, ◌≤◌, take, replicate};
 ghost use Rattle.text.specs.Text.{out, appended};
 ghost use Rattle.text.specs.Decimal.{decimal};
+ghost use Rattle.text.specs.Writer.{out_of};
 
 use check::{expect, same};
-use text::Text;
+use text::{Text, Writer};
 
 // The bytes are `want`, and the text has `at` and `full`.
-fn text_is(buf: &[u8], t: Text, want: &[u8], at: usize, full: bool)
-    requires { out buf.now t ≡ out want.now (record { at = at; full = full }) }
+fn text_is(w: &Writer, want: &[u8], at: usize, full: bool)
+    requires { out_of w.now ≡ out want.now (record { at = at; full = full }) }
 {
-    expect(same(buf, want));
-    expect(t.at == at);
-    expect(t.full == full);
+    expect(same(w.buf, want));
+    expect(w.text.at == at);
+    expect(w.text.full == full);
 }
 
 // `ab`, a space and the number x, put after the text t, leave the bytes `want` and a text with `at` and `full`.
+#[tactic(auto, unfolding(text::specs::Text::appended))]
 fn leaves(buf: &mut [u8], t: Text, x: u32, want: &[u8], at: usize, full: bool)
     requires { appended (97 ∷ 98 ∷ 32 ∷ decimal x) (out buf.old t) ≡ out want.now (record { at = at; full = full }) }
 {
-    let a = text::put_bytes(buf, t, b"ab");
-    let b = text::put_byte(buf, a, b' ');
-    let c = text::put_decimal(buf, b, x);
-    text_is(buf, c, want, at, full);
+    let mut w = Writer { buf, text: t };
+    w.put_bytes(b"ab");
+    w.put_byte(b' ');
+    w.put_decimal(x);
+    text_is(&w, want, at, full);
 }
 
 // The same in a buffer of `room` dots.
@@ -35,6 +38,7 @@ fn in_dots(room: usize, t: Text, x: u32, want: &[u8], at: usize, full: bool)
     leaves(&mut dots[..room], t, x, want, at, full);
 }
 
+#[tactic(auto, unfolding(text::specs::Text::appended, text::specs::Text::put, text::specs::Text::written, text::specs::Decimal::decimal, text::specs::Decimal::digits))]
 fn main() {
     let start = Text { at: 0, full: false };
     in_dots(0, start, 7, b"", 0, true);

@@ -1,36 +1,17 @@
 -- Bytes, spaces and digits at a place of a text, and the tokens that are made of them.
-use mathlib.Core.Path.{◌≡◌, refl, sym, ap, ◌∙◌, subst}
-use mathlib.Core.Bool.{Bool, true, false, cond, ◌&&◌, true≢false}
-use mathlib.Core.List.{List, [], ◌∷◌}
-use Prim.Native.Nat.{ℕ, zero, suc, ◌-◌, ◌<◌, ◌≤◌}
-use native.Mathlib.Omega.{arith}
-use lib.Dec.{T, eqb, ltb, leb, eqb→eq, leb→le, le→leb}
-use lib.ListN.{length, get_or, drop, length-drop, drop_of_length-le}
-use lib.Seq.{drop-cons}
+use Rattle.std.proofs.Common.{◌≡◌, ◌==◌, ℕ, zero, suc, ◌+◌, ◌-◌, ◌<◌, ◌≤◌, Bool, true, false, cond, ◌&&◌, List, [], ◌∷◌, length, get_or, drop, take, take_while, fold, T, eqb, ltb, leb, leb→le, le→leb, eqb→eq, Option, Some, None, Ok, Err, refl, sym, ap, subst, ◌∙◌, true≢false, arith, length-drop, drop-drop, drop-cons, ap₂, le-ltb, ltb-true, ltb-false}
+use Rattle.std.proofs.Math.Seq.{take-length}
+use Rattle.std.specs.List.{prefix_len}
+use Rattle.std.proofs.lemmas.List.Folds.{length-prefix_len}
+use Rattle.std.proofs.lemmas.List.Sums.{prefix_len-le-length}
 use Rattle.formulas.specs.Language.{digit, joined}
 use Rattle.formulas.specs.Reading.{spaces, byte, digits, numbered}
 use Rattle.nodes.proofs.BoolLaws.{and_both}
 use Rattle.conditions.specs.Stores.{Standard}
 use Rattle.conditions.specs.User.{is_user}
 use Rattle.conditions.proofs.Promises.{user_is}
-use Rattle.tokens.specs.declared.Token.{Token}
-use Rattle.tokens.specs.Contract.{Left, starts, starts_digit, capped, DigitsLeft, Took, took, stops, took_by, TookAt, Judges, NumberTook, within_table, opens, opener_token, arrow_token, then_took}
-
-T_true : (b : Bool) → T b → b ≡ true
-T_true true h = refl
-T_true false h = absurd h
-
--- the byte here is the first of what is left
-pub starts_is : (text : List ℕ) (at c : ℕ) → at < length text → eqb (get_or text at 0) c ≡ starts c (drop at text)
-starts_is text at c h = go (eqb (get_or text at 0) c) refl ∙ ap (starts c) (sym (drop-cons text at 0 h))
-  where
-    go : (b : Bool) → eqb (get_or text at 0) c ≡ b → eqb (get_or text at 0) c ≡ cond (eqb (get_or text at 0) c) true false
-    go true e = rw e refl
-    go false e = rw e refl
-
--- at the end no byte is
-pub starts-past : (text : List ℕ) (at c : ℕ) → length text ≤ at → false ≡ starts c (drop at text)
-starts-past text at c h = ap (starts c) (sym (drop_of_length-le text h))
+use Rattle.refusals.specs.declared.Refusal.TheVariants as row
+use Rattle.tokens.specs.Contract.{Left, starts, value_of, rest_of, fitted, joined_to, Took, took, stops, TookAt, where_good, kept, within_table, opens, opener_token, arrow_token, number_token}
 
 pub head_is : (c : ℕ) (s : List ℕ) → starts c s ≡ true → s ≡ c ∷ drop 1 s
 head_is c [] e = absurd (true≢false (sym e))
@@ -61,165 +42,179 @@ starts_here text at c e =
     let k = drop-cons text at 0 (starts_in text at c e) in
     head_is c (drop at text) e ∙ ap (λ (s : List ℕ). c ∷ drop 1 s) k
 
--- Spaces: the loop has passed over those before i.
-pub record SpacesLoop (text : List ℕ) (at i : ℕ) : Type 0 where
-  pub within : i ≤ length text
-  pub same : spaces (drop i text) ≡ spaces (drop at text)
+-- the text from a place on
+rest_is : (text : List ℕ) (at : ℕ) → take (length text - at) (drop at text) ≡ drop at text
+rest_is text at = ap (λ (n : ℕ). take n (drop at text)) (sym (length-drop at text)) ∙ take-length (drop at text)
 
-pub spaces-more : {text : List ℕ} {at i j : ℕ} → SpacesLoop text at i → starts 32 (drop i text) ≡ true → j ≡ suc i → SpacesLoop text at j
-spaces-more {text} {at} {i} {j} L e q =
-    record { within = omega (arith, starts_in text i 32 e, q); same = ap (λ (j : ℕ). spaces (drop j text)) q ∙ ap spaces (sym (starts_here text i 32 e)) ∙ L.same }
+-- behind the first bytes that a test takes
+pub left_behind : (p : ℕ → Bool) (text : List ℕ) (at n k : ℕ) (s : List ℕ) → at ≤ length text → n ≡ length (take_while p (take (length text - at) (drop at text))) → k ≡ at + n → drop (prefix_len p (drop at text)) (drop at text) ≡ s
+    → Left text k s
+left_behind p text at n k s h e q l =
+    let m : n ≡ prefix_len p (drop at text) = e ∙ ap (λ (l : List ℕ). length (take_while p l)) (rest_is text at) ∙ length-prefix_len p (drop at text) in
+    record { within = omega (arith, m, q, h, prefix_len-le-length p (drop at text), length-drop at text); is = rw q (sym (drop-drop n at text) ∙ ap (λ (i : ℕ). drop i (drop at text)) m ∙ l) }
 
-spaces_end : (s : List ℕ) → starts 32 s ≡ false → s ≡ spaces s
-spaces_end [] e = refl
-spaces_end (x ∷ s) e = go (eqb x 32) refl e
+-- Spaces and digits.
+pub behind_spaces : (s : List ℕ) → drop (prefix_len (λ c. c == 32) s) s ≡ spaces s
+behind_spaces [] = refl
+behind_spaces (c ∷ s) = go (eqb c 32) (behind_spaces s)
   where
-    go : (b : Bool) → eqb x 32 ≡ b → cond b true false ≡ false → x ∷ s ≡ cond b (spaces s) (x ∷ s)
-    go true q e = absurd (true≢false e)
-    go false q e = refl
+    go : (b : Bool) → drop (prefix_len (λ c. c == 32) s) s ≡ spaces s → drop (cond b (1 + prefix_len (λ c. c == 32) s) 0) (c ∷ s) ≡ cond b (spaces s) (c ∷ s)
+    go true e = let q : 1 + prefix_len (λ c. c == 32) s ≡ suc (prefix_len (λ c. c == 32) s) = omega arith in rw q e
+    go false e = refl
 
-pub spaces-done : {text : List ℕ} {at i : ℕ} → SpacesLoop text at i → starts 32 (drop i text) ≡ false → Left text i (spaces (drop at text))
-spaces-done {text} {at} {i} L e = record { within = L.within; is = spaces_end (drop i text) e ∙ L.same }
-
--- Digits.
-pub digit_is : (text : List ℕ) (at : ℕ) → at < length text → (leb 48 (get_or text at 0) && leb (get_or text at 0) 57) ≡ starts_digit (drop at text)
-digit_is text at h = ap starts_digit (sym (drop-cons text at 0 h))
-
-pub digit-past : (text : List ℕ) (at : ℕ) → length text ≤ at → false ≡ starts_digit (drop at text)
-digit-past text at h = ap starts_digit (sym (drop_of_length-le text h))
-
-pub digit_in : (text : List ℕ) (at : ℕ) → starts_digit (drop at text) ≡ true → at < length text
-digit_in text at e = go (drop at text) refl e
+-- the digits with which s begins, and what is behind them
+pub digits_are : {A : Type 0} (a : ℕ) (s : List ℕ) (f : ℕ → List ℕ → A) → digits a s f ≡ f (fold joined a (take (prefix_len digit s) s)) (drop (prefix_len digit s) s)
+digits_are a [] f = refl
+digits_are {A} a (c ∷ s) f = go (digit c) (digits_are (joined a c) s f)
   where
-    go : (s : List ℕ) → drop at text ≡ s → starts_digit s ≡ true → at < length text
-    go [] q e = absurd (true≢false (sym e))
-    go (x ∷ s) q e = cons_in text at q
+    go : (b : Bool) → digits (joined a c) s f ≡ f (fold joined (joined a c) (take (prefix_len digit s) s)) (drop (prefix_len digit s) s)
+        → cond b (digits (joined a c) s f) (f a (c ∷ s)) ≡ f (fold joined a (take (cond b (1 + prefix_len digit s) 0) (c ∷ s))) (drop (cond b (1 + prefix_len digit s) 0) (c ∷ s))
+    go true e = let q : 1 + prefix_len digit s ≡ suc (prefix_len digit s) = omega arith in rw q e
+    go false e = refl
 
-pub digit_here : (text : List ℕ) (at : ℕ) → starts_digit (drop at text) ≡ true → digit (get_or text at 0) ≡ true
-digit_here text at e = ap starts_digit (sym (drop-cons text at 0 (digit_in text at e))) ∙ e
-
-pub digit_least : (c : ℕ) → T (digit c) → 48 ≤ c
-digit_least c h = go (leb 48 c) refl h
+-- a value that is kept below 4,294,967,296, joined to a digit
+joined-fitted : (a c : ℕ) → joined_to (fitted a) c ≡ fitted (joined a c)
+joined-fitted a c = go (ltb a 4294967296) refl
   where
-    go : (b : Bool) → leb 48 c ≡ b → T (b && leb c 57) → 48 ≤ c
-    go true q h = leb→le 48 c (subst T (sym q) tt)
-    go false q h = absurd h
+    go : (b : Bool) → ltb a 4294967296 ≡ b → joined_to (cond b (Some a) None) c ≡ fitted (joined a c)
+    go true e = refl
+    go false e = sym (ap (λ (b : Bool). cond b (Some (joined a c)) None) (le-ltb (joined a c) 4294967296 (omega (arith, ltb-false a 4294967296 e))))
 
--- the loop has joined the digits before i to the number acc
-pub record DigitsLoop (text s : List ℕ) (i value : ℕ) : Type 0 where
-  pub within : i ≤ length text
-  pub acc : ℕ
-  pub is : value ≡ capped acc
-  pub rests : digits acc (drop i text) (λ n y. y) ≡ digits 0 s (λ n y. y)
-  pub values : digits acc (drop i text) (λ n y. n) ≡ digits 0 s (λ n y. n)
+folds-fitted : (a : ℕ) (s : List ℕ) → fold joined_to (fitted a) s ≡ fitted (fold joined a s)
+folds-fitted a [] = refl
+folds-fitted a (c ∷ s) = ap (λ (v : Option ℕ). fold joined_to v s) (joined-fitted a c) ∙ folds-fitted (joined a c) s
 
-pub capped-joined : (a d : ℕ) → capped (joined (capped a) d) ≡ capped (joined a d)
-capped-joined a d = omega arith
+pub value_is : (text : List ℕ) (at n : ℕ) (v : Option ℕ) → n ≡ length (take_while digit (take (length text - at) (drop at text))) → v ≡ fold joined_to (Some 0) (take n (take (length text - at) (drop at text))) → v ≡ fitted (value_of (drop at text))
+value_is text at n v e f =
+    let s = drop at text in
+    let m : n ≡ prefix_len digit s = e ∙ ap (λ (l : List ℕ). length (take_while digit l)) (rest_is text at) ∙ length-prefix_len digit s in
+    f ∙ ap₂ (λ (i : ℕ) (l : List ℕ). fold joined_to (Some 0) (take i l)) m (rest_is text at) ∙ folds-fitted 0 (take (prefix_len digit s) s) ∙ ap fitted (sym (digits_are 0 s (λ n y. n)))
 
-pub digits_more : {text s : List ℕ} {i j value v : ℕ} → DigitsLoop text s i value → starts_digit (drop i text) ≡ true → j ≡ suc i → v ≡ capped (joined value (get_or text i 0)) → DigitsLoop text s j v
-digits_more {text} {s} {i} {j} {value} {v} L e q r =
-    let d = get_or text i 0 in
-    record {
-      within = omega (arith, digit_in text i e, q);
-      acc = joined L.acc d;
-      is = r ∙ ap (λ (x : ℕ). capped (joined x d)) L.is ∙ capped-joined L.acc d;
-      rests = step (λ n y. y) ∙ L.rests;
-      values = step (λ n y. n) ∙ L.values;
-    }
-  where
-    step : {A : Type 0} (f : ℕ → List ℕ → A) → digits (joined L.acc (get_or text i 0)) (drop j text) f ≡ digits L.acc (drop i text) f
-    step f =
-        ap (λ (j : ℕ). digits (joined L.acc (get_or text i 0)) (drop j text) f) q
-        ∙ sym (ap (λ (b : Bool). cond b (digits (joined L.acc (get_or text i 0)) (drop (suc i) text) f) (f L.acc (get_or text i 0 ∷ drop (suc i) text))) (digit_here text i e))
-        ∙ ap (λ (s : List ℕ). digits L.acc s f) (sym (drop-cons text i 0 (digit_in text i e)))
-
-digits_end : {A : Type 0} (a : ℕ) (s : List ℕ) (f : ℕ → List ℕ → A) → starts_digit s ≡ false → digits a s f ≡ f a s
-digits_end a [] f e = refl
-digits_end a (c ∷ s) f e = ap (λ (b : Bool). cond b (digits (joined a c) s f) (f a (c ∷ s))) e
-
-pub digits-done : {text s : List ℕ} {i value : ℕ} → DigitsLoop text s i value → starts_digit (drop i text) ≡ false → DigitsLeft text s i value
-digits-done {text} {s} {i} {value} L e =
-    record {
-      left = record { within = L.within; is = sym (digits_end L.acc (drop i text) (λ n y. y) e) ∙ L.rests };
-      is = L.is ∙ ap capped (sym (digits_end L.acc (drop i text) (λ n y. n) e) ∙ L.values);
-    }
+pub behind_digits : (s : List ℕ) → drop (prefix_len digit s) s ≡ rest_of s
+behind_digits s = sym (digits_are 0 s (λ n y. y))
 
 -- Numbers.
 digits_split : {A : Type 0} (a : ℕ) (s : List ℕ) (f : ℕ → List ℕ → A) → digits a s f ≡ f (digits a s (λ n y. n)) (digits a s (λ n y. y))
-digits_split a [] f = refl
-digits_split {A} a (d ∷ s) f = go (digit d) (digits_split (joined a d) s f)
+digits_split a s f = digits_are a s f ∙ sym (ap₂ f (digits_are a s (λ n y. n)) (digits_are a s (λ n y. y)))
+
+rest_short : (a : ℕ) (s : List ℕ) → length (digits a s (λ n y. y)) ≤ length s
+rest_short a s = omega (arith, ap length (digits_are a s (λ n y. y)), length-drop (prefix_len digit s) s)
+
+numbered-none : {A : Type 0} (s : List ℕ) (f : ℕ → List ℕ → A) (a : A) → length (rest_of s) ≡ length s → numbered s f a ≡ a
+numbered-none [] f a e = refl
+numbered-none (d ∷ s) f a e = go (digit d) e
   where
-    go : (b : Bool) → digits (joined a d) s f ≡ f (digits (joined a d) s (λ n y. n)) (digits (joined a d) s (λ n y. y))
-        → cond b (digits (joined a d) s f) (f a (d ∷ s)) ≡ f (cond b (digits (joined a d) s (λ n y. n)) a) (cond b (digits (joined a d) s (λ n y. y)) (d ∷ s))
-    go true e = e
+    go : (b : Bool) → length (cond b (digits (joined 0 d) s (λ n y. y)) (d ∷ s)) ≡ suc (length s) → cond b (digits (joined 0 d) s f) a ≡ a
+    go true e = absurd (omega (arith, e, rest_short (joined 0 d) s))
     go false e = refl
 
-numbered-none : {A : Type 0} (s : List ℕ) (f : ℕ → List ℕ → A) (a : A) → starts_digit s ≡ false → numbered s f a ≡ a
-numbered-none [] f a e = refl
-numbered-none (d ∷ s) f a e = ap (λ (b : Bool). cond b (digits (joined 0 d) s f) a) e
+numbered-some : {A : Type 0} (s : List ℕ) (f : ℕ → List ℕ → A) (a : A) → length (rest_of s) < length s → numbered s f a ≡ f (value_of s) (rest_of s)
+numbered-some [] f a e = absurd (omega (arith, e))
+numbered-some (d ∷ s) f a e = go (digit d) e
+  where
+    go : (b : Bool) → length (cond b (digits (joined 0 d) s (λ n y. y)) (d ∷ s)) < suc (length s)
+        → cond b (digits (joined 0 d) s f) a ≡ f (cond b (digits (joined 0 d) s (λ n y. n)) 0) (cond b (digits (joined 0 d) s (λ n y. y)) (d ∷ s))
+    go true e = digits_split (joined 0 d) s f
+    go false e = absurd (omega (arith, e))
 
-numbered-some : {A : Type 0} (s : List ℕ) (f : ℕ → List ℕ → A) (a : A) → starts_digit s ≡ true → numbered s f a ≡ f (digits 0 s (λ n y. n)) (digits 0 s (λ n y. y))
-numbered-some [] f a e = absurd (true≢false (sym e))
-numbered-some (d ∷ s) f a e =
-    ap (λ (b : Bool). cond b (digits (joined 0 d) s f) a) e ∙ sym (ap (λ (b : Bool). cond b (digits (joined 0 d) s f) (f 0 (d ∷ s))) e) ∙ digits_split 0 (d ∷ s) f
+-- a number is chosen where it is good
+chosen-none : (b : Bool) (n : ℕ) → None ≡ cond b (Some n) None → b ≡ false
+chosen-none true n e = cc
+chosen-none false n e = refl
 
--- the number behind the letter at this place begins at j
-module _ (text : List ℕ) (at j : ℕ) (h : at < length text) (next : j ≡ suc at) where
-  behind : {b : Bool} → starts_digit (drop j text) ≡ b → starts_digit (drop (suc at) text) ≡ b
-  behind e = ap (λ (j : ℕ). starts_digit (drop j text)) (sym next) ∙ e
+chosen-some : (b : Bool) (m n : ℕ) → Some m ≡ cond b (Some n) None → (b ≡ true) × (m ≡ n)
+chosen-some true m n e = (refl, cc)
+chosen-some false m n e = cc
 
+-- the number behind the letter at this place
+module _ (text : List ℕ) (at «end» : ℕ) (h : at < length text) (L : Left text «end» (rest_of (drop (suc at) text))) (good : ℕ → Bool) where
   -- no digit stands behind the letter
-  pub number-none : (value : ℕ) (good : Bool) → starts_digit (drop j text) ≡ false → NumberTook text at value good (record { row = 15; at = j; number = 0 })
-  number-none value good e g G =
-      record { within = omega (arith, next); is = ap (λ (j : ℕ). stops 15 (drop j text)) next ∙ sym (numbered-none (drop (suc at) text) _ _ (behind e)) }
+  pub number-none : «end» ≡ at + 1 → TookAt text (Err (record { refusal = row.Language; at = «end» })) (number_token good (get_or text at 0) (drop (suc at) text))
+  number-none e =
+      let q : «end» ≡ suc at = omega (arith, e) in
+      let l = ap (λ (i : ℕ). drop i text) q in
+      record { within = L.within; is = ap (stops 15) l ∙ sym (numbered-none (drop (suc at) text) _ _ (ap length (sym L.is ∙ l))) }
 
-  module _ {end value : ℕ} (D : DigitsLeft text (drop (suc at) text) end value) (e : starts_digit (drop j text) ≡ true) where
+  module _ (e : («end» ≡ at + 1 → ⊥)) where
+    shorter : length (rest_of (drop (suc at) text)) < length (drop (suc at) text)
+    shorter = omega (arith, e, h, L.within, ap length L.is, rest_short 0 (drop (suc at) text), length-drop «end» text, length-drop (suc at) text)
+
     -- its value is not good
-    pub number-wrong : (good : Bool) → good ≡ false → NumberTook text at value good (record { row = 15; at = at; number = 0 })
-    number-wrong good f g G =
+    pub number-wrong : None ≡ where_good good (value_of (drop (suc at) text)) → TookAt text (Err (record { refusal = row.Language; at = at })) (number_token good (get_or text at 0) (drop (suc at) text))
+    number-wrong g =
         let x = drop (suc at) text in
-        let n = digits 0 x (λ n y. n) in
-        let y = digits 0 x (λ n y. y) in
         record {
           within = omega arith;
-          is = ap (stops 15) (drop-cons text at 0 h) ∙ sym (numbered-some x _ _ (behind e) ∙ ap (λ (b : Bool). cond b (took n (spaces y)) (stops 15 (get_or text at 0 ∷ x))) (G.same n (sym D.is) ∙ f));
+          is = ap (stops 15) (drop-cons text at 0 h) ∙ sym (numbered-some x _ _ shorter ∙ ap (λ (b : Bool). cond b (took (value_of x) (spaces (rest_of x))) (stops 15 (get_or text at 0 ∷ x))) (chosen-none (good (value_of x)) (value_of x) g));
         }
 
     -- it is good
-    pub number_good : (good : Bool) → good ≡ true → value < 4294967296 → (k : ℕ) → Left text k (spaces (drop end text)) → NumberTook text at value good (record { row = 0; at = k; number = value })
-    number_good good f small k L g G =
+    pub number_good : {n k : ℕ} → Some n ≡ where_good good (value_of (drop (suc at) text)) → Left text k (spaces (drop «end» text)) → TookAt text (Ok (record { at = k; number = n })) (number_token good (get_or text at 0) (drop (suc at) text))
+    number_good {n} {k} g K =
         let x = drop (suc at) text in
-        let n = digits 0 x (λ n y. n) in
-        let y = digits 0 x (λ n y. y) in
-        let same : value ≡ n = omega (arith, D.is) in
+        let q = chosen-some (good (value_of x)) n (value_of x) g in
         record {
-          within = L.within;
-          is = ap (took value) (L.is ∙ ap spaces D.left.is) ∙ ap (λ (n : ℕ). took n (spaces y)) same
-              ∙ sym (numbered-some x _ _ (behind e) ∙ ap (λ (b : Bool). cond b (took n (spaces y)) (stops 15 (get_or text at 0 ∷ x))) (G.same n (sym D.is) ∙ f));
+          within = K.within;
+          is = ap₂ took q.1 (K.is ∙ ap spaces L.is) ∙ sym (numbered-some x _ _ shorter ∙ ap (λ (b : Bool). cond b (took (value_of x) (spaces (rest_of x))) (stops 15 (get_or text at 0 ∷ x))) q.0);
         }
 
--- Openers and arrows.
-pub opener-full : (text : List ℕ) (at d : ℕ) → at < length text → d ≡ 0 → TookAt text (record { row = 16; at = at; number = 0 }) (opener_token d (get_or text at 0) (drop (suc at) text))
-opener-full text at d h e =
-    record { within = omega arith; is = ap (stops 16) (drop-cons text at 0 h) ∙ ap (λ (d : ℕ). opener_token d (get_or text at 0) (drop (suc at) text)) (sym e) }
+-- Which numbers are good: those of a table's predicates, and of nodes.
+kept-fitted : (p good : ℕ → Bool) → ((n : ℕ) → good n ≡ true → n < 4294967296) → ((n : ℕ) → n < 4294967296 → p n ≡ good n) → (n : ℕ) → kept p (fitted n) ≡ where_good good n
+kept-fitted p good small same n = go (ltb n 4294967296) refl
+  where
+    go : (b : Bool) → ltb n 4294967296 ≡ b → kept p (cond b (Some n) None) ≡ where_good good n
+    go true e = ap (λ (b : Bool). cond b (Some n) None) (same n (ltb-true n 4294967296 e))
+    go false e = past (good n) refl
+      where
+        past : (b : Bool) → good n ≡ b → None ≡ cond b (Some n) None
+        past true q = absurd (omega (arith, small n q, ltb-false n 4294967296 e))
+        past false q = refl
 
+-- the number behind the letter, at the place that a program names
+chosen-behind : (text : List ℕ) (at j : ℕ) (p good : ℕ → Bool) {v r : Option ℕ} → j ≡ suc at → v ≡ fitted (value_of (drop j text)) → r ≡ kept p v → ((n : ℕ) → kept p (fitted n) ≡ where_good good n) → r ≡ where_good good (value_of (drop (suc at) text))
+chosen-behind text at j p good q e f K = f ∙ ap (kept p) (e ∙ ap (λ (i : ℕ). fitted (value_of (drop i text))) q) ∙ K (value_of (drop (suc at) text))
+
+pub predicate_chosen : (text : List ℕ) (at j predicates : ℕ) {v r : Option ℕ} → j ≡ suc at → v ≡ fitted (value_of (drop j text)) → r ≡ kept (λ p. ltb p predicates) v → r ≡ where_good (within_table predicates) (value_of (drop (suc at) text))
+predicate_chosen text at j predicates q e f = chosen-behind text at j (λ p. ltb p predicates) (within_table predicates) q e f (kept-fitted (λ p. ltb p predicates) (within_table predicates) small same)
+  where
+    small : (n : ℕ) → within_table predicates n ≡ true → n < 4294967296
+    small n e = omega (arith, leb→le n 4294967295 (subst T (sym (and_both (ltb n predicates) (leb n 4294967295) e).1) tt))
+
+    and_true : (a b : Bool) → T b → a ≡ (a && b)
+    and_true true true h = refl
+    and_true false true h = refl
+    and_true a false h = absurd h
+
+    same : (n : ℕ) → n < 4294967296 → ltb n predicates ≡ within_table predicates n
+    same n h = and_true (ltb n predicates) (leb n 4294967295) (le→leb n 4294967295 (omega (arith, h)))
+
+pub node_chosen : (text : List ℕ) (at j : ℕ) (w : List ℕ) (c : ℕ) {v r : Option ℕ} → Standard w c → j ≡ suc at → v ≡ fitted (value_of (drop j text)) → r ≡ kept (is_user w c) v → r ≡ where_good (is_user w c) (value_of (drop (suc at) text))
+node_chosen text at j w c S q e f = chosen-behind text at j (is_user w c) (is_user w c) q e f (kept-fitted (is_user w c) (is_user w c) (λ n e. omega (arith, (user_is w c n e).0, S.most)) (λ n h. refl))
+
+-- and its digits end where those behind the letter do
+pub rest_behind : {text : List ℕ} {at j «end» : ℕ} → j ≡ suc at → Left text «end» (rest_of (drop j text)) → Left text «end» (rest_of (drop (suc at) text))
+rest_behind {text} {at} {j} {«end»} q L = subst (λ (i : ℕ). Left text «end» (rest_of (drop i text))) q L
+
+-- Openers and arrows.
 opens-more : (d : ℕ) (s : List ℕ) (t : Took) → (d ≡ 0 → ⊥) → t ≡ opens d s t
 opens-more zero s t h = absurd (h refl)
 opens-more (suc d) s t h = refl
 
-pub opener-free : (text : List ℕ) (at j d k : ℕ) → j ≡ suc at → (d ≡ 0 → ⊥) → Left text k (spaces (drop j text)) → TookAt text (record { row = 0; at = k; number = 0 }) (opener_token d (get_or text at 0) (drop (suc at) text))
-opener-free text at j d k q h L =
-    record { within = L.within; is = ap (took 0) (L.is ∙ ap (λ (j : ℕ). spaces (drop j text)) q) ∙ opens-more d (get_or text at 0 ∷ drop (suc at) text) _ h }
+pub opener-full : (text : List ℕ) (at d : ℕ) → at < length text → d ≡ 0 → TookAt text (Err (record { refusal = row.Depth; at = at })) (opener_token d (get_or text at 0) (drop (suc at) text))
+opener-full text at d h e = record { within = omega arith; is = ap (stops 16) (drop-cons text at 0 h) ∙ ap (λ (d : ℕ). opener_token d (get_or text at 0) (drop (suc at) text)) (sym e) }
+
+pub opener-free : (text : List ℕ) (at j d k : ℕ) → j ≡ suc at → (d ≡ 0 → ⊥) → Left text k (spaces (drop j text)) → TookAt text (Ok (record { at = k; number = 0 })) (opener_token d (get_or text at 0) (drop (suc at) text))
+opener-free text at j d k q h L = record { within = L.within; is = ap (took 0) (L.is ∙ ap (λ (j : ℕ). spaces (drop j text)) q) ∙ opens-more d (get_or text at 0 ∷ drop (suc at) text) _ h }
 
 module _ (text : List ℕ) (at d n : ℕ) (h : at ≤ length text) where
-  pub arrow-none : starts 45 (drop at text) ≡ false → TookAt text (record { row = 15; at = at; number = 0 }) (arrow_token d n (drop at text))
+  pub arrow-none : starts 45 (drop at text) ≡ false → TookAt text (Err (record { refusal = row.Language; at = at })) (arrow_token d n (drop at text))
   arrow-none e = record { within = h; is = sym (byte_not 45 (drop at text) _ _ e) }
 
   module _ (j : ℕ) (next : j ≡ suc at) (e : starts 45 (drop at text) ≡ true) where
     behind_dash : {A : Type 0} (f : List ℕ → A) (a : A) → byte 45 (drop at text) f a ≡ f (drop j text)
     behind_dash f a = ap (λ (s : List ℕ). byte 45 s f a) (starts_here text at 45 e) ∙ ap (λ (j : ℕ). f (drop j text)) (sym next)
 
-    pub arrow_half : starts 62 (drop j text) ≡ false → TookAt text (record { row = 15; at = j; number = 0 }) (arrow_token d n (drop at text))
+    pub arrow_half : starts 62 (drop j text) ≡ false → TookAt text (Err (record { refusal = row.Language; at = j })) (arrow_token d n (drop at text))
     arrow_half f = record { within = omega (arith, next, starts_in text at 45 e); is = sym (behind_dash _ _ ∙ byte_not 62 (drop j text) _ _ f) }
 
     module _ (f : starts 62 (drop j text) ≡ true) where
@@ -229,59 +224,8 @@ module _ (text : List ℕ) (at d n : ℕ) (h : at ≤ length text) where
       behind_arrow : arrow_token d n (drop at text) ≡ opens d (45 ∷ 62 ∷ drop (suc j) text) (took n (spaces (drop (suc j) text)))
       behind_arrow = ap (arrow_token d n) whole
 
-      pub arrow-full : d ≡ 0 → TookAt text (record { row = 16; at = at; number = 0 }) (arrow_token d n (drop at text))
+      pub arrow-full : d ≡ 0 → TookAt text (Err (record { refusal = row.Depth; at = at })) (arrow_token d n (drop at text))
       arrow-full z = record { within = h; is = ap (stops 16) whole ∙ sym (behind_arrow ∙ ap (λ (d : ℕ). opens d (45 ∷ 62 ∷ drop (suc j) text) (took n (spaces (drop (suc j) text)))) z) }
 
-      pub arrow-free : (i k : ℕ) → i ≡ suc j → (d ≡ 0 → ⊥) → Left text k (spaces (drop i text)) → TookAt text (record { row = 0; at = k; number = n }) (arrow_token d n (drop at text))
-      arrow-free i k q z L =
-          record { within = L.within; is = ap (took n) (L.is ∙ ap (λ (i : ℕ). spaces (drop i text)) q) ∙ opens-more d _ _ z ∙ sym behind_arrow }
-
--- a token behind a token
-pub when-stops : (text : List ℕ) (t : Token) (x : Took) (f : ℕ → List ℕ → Took) → (t.row ≡ 0 → ⊥) → TookAt text t x → TookAt text t (then_took x f)
-when-stops text t x f z T = record { within = T.within; is = go t.row refl T.is ∙ ap (λ (x : Took). then_took x f) T.is }
-  where
-    go : (k : ℕ) → t.row ≡ k → took_by k t.number (drop t.at text) ≡ x → took_by t.row t.number (drop t.at text) ≡ then_took (took_by t.row t.number (drop t.at text)) f
-    go zero e q = absurd (z e)
-    go (suc k) e q = rw e refl
-
-pub when-goes_on : (text : List ℕ) (t : Token) (x : Took) (f : ℕ → List ℕ → Took) (u : Token) → t.row ≡ 0 → TookAt text t x → TookAt text u (f t.number (drop t.at text)) → TookAt text u (then_took x f)
-when-goes_on text t x f u z T U =
-    record { within = U.within; is = U.is ∙ ap (λ (k : ℕ). then_took (took_by k t.number (drop t.at text)) f) (sym z) ∙ ap (λ (x : Took). then_took x f) T.is }
-
--- the tests of numbers
-pub table_judges : (predicates value : ℕ) → value < 4294967296 → Judges (within_table predicates) value (ltb value predicates)
-table_judges predicates value h =
-    record {
-      same = λ n e. ap (within_table predicates) (uncut n e) ∙ and_true (ltb value predicates) (leb value 4294967295) (T_true (leb value 4294967295) (le→leb value 4294967295 (omega arith)));
-      small = λ t. h;
-    }
-  where
-    uncut : (n : ℕ) → capped n ≡ value → n ≡ value
-    uncut n e = omega (arith, e)
-
-    and_true : (a b : Bool) → b ≡ true → (a && b) ≡ a
-    and_true true b e = e
-    and_true false b e = refl
-
--- a value that is cut is no number that a test accepts whose numbers are small
-pub past_judges : (good : ℕ → Bool) → ((n : ℕ) → good n ≡ true → n < 4294967296) → (value : ℕ) → 4294967296 ≤ value → Judges good value false
-past_judges good h value k = record { same = λ n e. go n e (good n) refl; small = λ e. absurd (true≢false (sym e)) }
-  where
-    go : (n : ℕ) → capped n ≡ value → (b : Bool) → good n ≡ b → good n ≡ false
-    go n e true q = absurd (omega (arith, e, h n q))
-    go n e false q = q
-
-pub table-small : (predicates n : ℕ) → within_table predicates n ≡ true → n < 4294967296
-table-small predicates n e = omega (arith, leb→le n 4294967295 (subst T (sym (and_both (ltb n predicates) (leb n 4294967295) e).1) tt))
-
-pub node_judges : (w : List ℕ) (c value : ℕ) → value < 4294967296 → {b : Bool} → b ≡ is_user w c value → Judges (is_user w c) value b
-node_judges w c value h q = record { same = λ n e. ap (is_user w c) (uncut n e) ∙ sym q; small = λ t. h }
-  where
-    uncut : (n : ℕ) → capped n ≡ value → n ≡ value
-    uncut n e = omega (arith, e)
-
-pub node-small : (w : List ℕ) (c : ℕ) → Standard w c → (n : ℕ) → is_user w c n ≡ true → n < 4294967296
-node-small w c S n e = omega (arith, (user_is w c n e).0, S.most)
-
-pub digits_behind : {text : List ℕ} {at j end value : ℕ} → j ≡ suc at → DigitsLeft text (drop j text) end value → DigitsLeft text (drop (suc at) text) end value
-digits_behind {text} {at} {j} {end} {value} q D = subst (λ (j : ℕ). DigitsLeft text (drop j text) end value) q D
+      pub arrow-free : (i k : ℕ) → i ≡ suc j → (d ≡ 0 → ⊥) → Left text k (spaces (drop i text)) → TookAt text (Ok (record { at = k; number = n })) (arrow_token d n (drop at text))
+      arrow-free i k q z L = record { within = L.within; is = ap (took n) (L.is ∙ ap (λ (i : ℕ). spaces (drop i text)) q) ∙ opens-more d _ _ z ∙ sym behind_arrow }

@@ -1,8 +1,11 @@
 -- What the functions of tokens promise, in the terms of the reader.
-use Rattle.std.specs.Prelude.{◌≡◌, Bool, true, false, cond, ◌&&◌, List, [], ◌∷◌, ℕ, zero, suc, ◌<◌, ◌≤◌, min, ltb, leb, length, get_or, drop}
-use Rattle.formulas.specs.Language.{digit}
+use Rattle.std.specs.Prelude.{◌≡◌, Bool, true, false, cond, ◌&&◌, List, ◌∷◌, ℕ, zero, suc, ◌≤◌, ltb, leb, length, get_or, drop, Option, Some, None, Result, Ok, Err}
+use Rattle.formulas.specs.Language.{joined}
 use Rattle.formulas.specs.Reading.{spaces, byte, digits, numbered}
+use Rattle.refusals.specs.Refusal.{number}
 use Rattle.tokens.specs.declared.Token.{Token}
+use Rattle.tokens.specs.declared.Fault.{Fault}
+use Rattle.tokens.specs.declared.Number.{Number}
 
 -- at the place r of the text s is left
 pub record Left (text : List ℕ) (r : ℕ) (s : List ℕ) : Type 0 where
@@ -12,43 +15,59 @@ pub record Left (text : List ℕ) (r : ℕ) (s : List ℕ) : Type 0 where
 abbrev pub starts : ℕ → List ℕ → Bool
 starts c s = byte c s (λ x. true) false
 
-abbrev pub starts_digit : List ℕ → Bool
-starts_digit [] = false
-starts_digit (c ∷ s) = digit c
+-- the value of the digits with which s begins, and what is left behind them
+abbrev pub value_of : List ℕ → ℕ
+value_of s = digits 0 s (λ n y. n)
 
-abbrev pub capped : ℕ → ℕ
-capped n = min n 4294967296
+abbrev pub rest_of : List ℕ → List ℕ
+rest_of s = digits 0 s (λ n y. y)
 
--- the digits with which s begins have this value, cut to 4,294,967,296, and end at the place r
-pub record DigitsLeft (text s : List ℕ) (r value : ℕ) : Type 0 where
-  pub left : Left text r (digits 0 s (λ n y. y))
-  pub is : value ≡ capped (digits 0 s (λ n y. n))
+-- a number that is below 4,294,967,296
+abbrev pub fitted : ℕ → Option ℕ
+fitted n = cond (ltb n 4294967296) (Some n) None
+
+-- a digit joined to one
+abbrev pub joined_to : Option ℕ → ℕ → Option ℕ
+joined_to None c = None
+joined_to (Some a) c = fitted (joined a c)
+
+-- the digits with which s begins have this value, where it is below 4,294,967,296, and end at this place
+pub record NumberIs (text s : List ℕ) (d : Number) : Type 0 where
+  pub left : Left text d.«end» (rest_of s)
+  pub is : d.value ≡ fitted (value_of s)
 
 -- a token: its number and what is left behind it, or the row that refuses it and what is left at its place
 pub data Took : Type 0 where
   took : ℕ → List ℕ → Took
   stops : ℕ → List ℕ → Took
 
-abbrev pub took_by : ℕ → ℕ → List ℕ → Took
-took_by zero n s = took n s
-took_by (suc k) n s = stops (suc k) s
+abbrev pub took_by : List ℕ → Result Token Fault → Took
+took_by text (Ok t) = took t.number (drop t.at text)
+took_by text (Err f) = stops (number f.refusal) (drop f.at text)
 
-pub record TookAt (text : List ℕ) (t : Token) (x : Took) : Type 0 where
-  pub within : t.at ≤ length text
-  pub is : took_by t.row t.number (drop t.at text) ≡ x
+abbrev pub place_of : Result Token Fault → ℕ
+place_of (Ok t) = t.at
+place_of (Err f) = f.at
+
+pub record TookAt (text : List ℕ) (t : Result Token Fault) (x : Took) : Type 0 where
+  pub within : place_of t ≤ length text
+  pub is : took_by text t ≡ x
 
 -- the number behind the letter c, where some are good: "a wrong number's [place is] at its letter"
 abbrev pub number_token : (ℕ → Bool) → ℕ → List ℕ → Took
 number_token good c x = numbered x (λ n y. cond (good n) (took n (spaces y)) (stops 15 (c ∷ x))) (stops 15 x)
 
--- a value, as it is cut, is judged as the number is; a value that is cut is not good
-pub record Judges (good : ℕ → Bool) (value : ℕ) (r : Bool) : Type 0 where
-  pub same : (n : ℕ) → capped n ≡ value → good n ≡ r
-  pub small : r ≡ true → value < 4294967296
+-- a number, if it is good
+abbrev pub where_good : (ℕ → Bool) → ℕ → Option ℕ
+where_good good n = cond (good n) (Some n) None
+
+abbrev pub kept : (ℕ → Bool) → Option ℕ → Option ℕ
+kept good None = None
+kept good (Some n) = where_good good n
 
 -- the number behind the letter at this place
-abbrev pub NumberTook : List ℕ → ℕ → ℕ → Bool → Token → Type 0
-NumberTook text at value r t = (good : ℕ → Bool) → Judges good value r → TookAt text t (number_token good (get_or text at 0) (drop (suc at) text))
+abbrev pub NumberTook : List ℕ → ℕ → Option ℕ → Result Token Fault → Type 0
+NumberTook text at n t = (good : ℕ → Bool) → n ≡ where_good good (value_of (drop (suc at) text)) → TookAt text t (number_token good (get_or text at 0) (drop (suc at) text))
 
 -- the numbers of a table's predicates
 abbrev pub within_table : ℕ → ℕ → Bool

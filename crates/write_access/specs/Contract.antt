@@ -1,14 +1,13 @@
 -- What a write promises.
-use Rattle.std.specs.Prelude.{Bool, cond, ◌&&◌, ℕ, eqb}
-use Rattle.model.specs.Step.{Answer, place, idle}
-use Rattle.model.specs.declared.Fields.{Fields}
-use Rattle.rows.specs.Contract.{unless_refused}
-use Rattle.write_access.specs.declared.WriteDone.{WriteDone}
+use Rattle.std.specs.Prelude.{ℕ, Option, Some, None, Result}
+use Rattle.refusals.specs.declared.Refusal.{Refusal}
+use Rattle.model.specs.Step.{Given, Answer, place, idle}
+use Rattle.rows.specs.Contract.{answer_by}
 
--- what a write answers by its number, whether it is idle, and the place of its entry
-abbrev pub write_answer : ℕ → Bool → ℕ → Answer
-write_answer k b at = unless_refused k (cond b idle (place at))
+-- the place of its entry, or idle
+abbrev pub written : Option ℕ → Given
+written (Some k) = place k
+written None = idle
 
--- what the tests before building find: the row that refuses, or 0, and then whether its enable is never 1
-abbrev pub tested_as : Fields → ℕ → Bool → WriteDone
-tested_as r k never = record { after = r; row = k; idle = eqb k 0 && never }
+abbrev pub write_answer : Result (Option ℕ) Refusal → Answer
+write_answer x = answer_by x written

@@ -1,26 +1,16 @@
-use Prim.Native.Nat.{◌-◌}
-use native.Mathlib.Omega.{arith}
+use Rattle.std.proofs.Common.{rules, arith, length-append}
+use Rattle.std.proofs.lemmas.Slice.Zip.{zip_turn, zip_end}
 use Rattle.model.specs.Access.{Inside}
-use Rattle.addresses.proofs.LoopLaws.{loop-begins, loop-goes_on, loop_did}
+use Rattle.addresses.proofs.LoopLaws.{loop-goes_on, loop_did}
 use Rattle.building.proofs.inside.Goals as goal
 
-pub loop-k-init : goal.loop-k-init
-loop-k-init c =
-    let p = c.requires in
-    loop-begins p.0 (omega (arith, p.0.standard.two))
-
-pub inside_half-b-requires : goal.inside_half-b-requires
-inside_half-b-requires c =
-    let p = c.requires in
-    let L = c.loop-k.invariant in
-    (L.sound, omega (arith, p.2.at c.loop-k.k (omega arith), L.more), omega (arith, p.3.at c.loop-k.k (omega (arith, p.1)), L.more), L.node)
-
-pub loop-k-preserved : goal.loop-k-preserved
-loop-k-preserved c = loop-goes_on c.loop-k.invariant (omega arith) c.inside_half-b.auto.words c.inside_half-b.ensures
-
-pub shape_of-words : goal.shape_of-words
-shape_of-words c = c.loop-k.invariant.len
+pub loop-p-preserved : goal.loop-p-preserved
+loop-p-preserved c =
+    let t = zip_turn c.args.x.now c.args.y.now c.loop-p.yielded c.into_iter-p-iterator.result c.loop-p.p-iterator c.next.new.self c.next.result (search rules) (search rules) c.loop-p.yielded_by (c.in-Some.p, c.in-Some.q) c.in-Some.is c.next.ensures.steps in
+    rw length-append (loop-goes_on c.loop-p.invariant t.0 (rw (t.2 0, t.3 0) at c.inside_half-c.ensures))
 
 pub returns : goal.returns
 unfolding Inside
-returns c = loop_did c.loop-k.invariant (omega arith)
+returns c =
+    let t = zip_end c.args.x.now c.args.y.now c.loop-p.yielded c.into_iter-p-iterator.result c.loop-p.p-iterator c.next.new.self c.next.result (search rules) (search rules) c.loop-p.yielded_by c.in-None.is c.next.ensures.steps in
+    loop_did c.loop-p.invariant (omega (arith, t, c.requires.0))

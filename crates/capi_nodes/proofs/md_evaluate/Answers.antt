@@ -1,9 +1,9 @@
-use Rattle.capi_nodes.proofs.CallLaws.{evaluate_is, value_is}
-use Rattle.memory.specs.Contract.{value_answer}
+use Rattle.std.proofs.Common.{refl, ◌∙◌}
+use Rattle.capi_nodes.proofs.CallLaws.{evaluate_is, as_number}
 use Rattle.capi_nodes.proofs.md_evaluate.Goals as goal
 
-pub returns-in-Value : goal.returns-in-Value
-returns-in-Value c = value_is _ _ c.args.record.now c.args.nodes.now c.args.value.now c.in-Value.is c.record_of.ensures c.evaluate-x.ensures
+pub returns-in-Ok : goal.returns-in-Ok
+returns-in-Ok c = evaluate_is _ _ c.args.record.now c.args.nodes.now c.args.value.now c.record_of.ensures (rw c.in-Ok.is at c.evaluate-x.ensures) refl (c.from.ensures ∙ as_number c.in-Ok.b)
 
-pub returns-in-Refused : goal.returns-in-Refused
-returns-in-Refused c = evaluate_is value_answer _ _ c.args.record.now c.args.nodes.now c.args.value.now c.in-Refused.is c.record_of.ensures c.evaluate-x.ensures
+pub returns-in-Err : goal.returns-in-Err
+returns-in-Err c = evaluate_is _ _ c.args.record.now c.args.nodes.now c.args.value.now c.record_of.ensures (rw c.in-Err.is at c.evaluate-x.ensures) c.number.ensures refl

@@ -1,9 +1,9 @@
+use Rattle.std.proofs.Common.{refl}
 use Rattle.capi_nodes.proofs.CallLaws.{fresh_is}
-use Rattle.memory.specs.Contract.{fresh_answer}
 use Rattle.capi_nodes.proofs.md_fresh.Goals as goal
 
-pub returns-in-Accepted : goal.returns-in-Accepted
-returns-in-Accepted c = fresh_is fresh_answer _ c.args.record.now c.args.nodes.now c.args.ports.now c.in-Accepted.is c.record_of.ensures c.fresh-x.ensures c.put_record.ensures
+pub returns-in-Ok : goal.returns-in-Ok
+returns-in-Ok c = fresh_is _ c.args.record.now c.args.nodes.now c.args.ports.now c.record_of.ensures (rw c.in-Ok.is at c.fresh-x.ensures) c.put_record.ensures refl
 
-pub returns-in-Refused : goal.returns-in-Refused
-returns-in-Refused c = fresh_is fresh_answer _ c.args.record.now c.args.nodes.now c.args.ports.now c.in-Refused.is c.record_of.ensures c.fresh-x.ensures c.put_record.ensures
+pub returns-in-Err : goal.returns-in-Err
+returns-in-Err c = fresh_is _ c.args.record.now c.args.nodes.now c.args.ports.now c.record_of.ensures (rw c.in-Err.is at c.fresh-x.ensures) c.put_record.ensures c.number.ensures

@@ -19,20 +19,20 @@ pub do_check-requires : goal.do_check-requires
 unfolding ends_of fields_of
 do_check-requires c = (c.requires.0, c.requires.3 ∙ ap (λ k. size_of k c.args.c.memory.fields.sizes.n c.args.c.memory.fields.sizes.w) c.in-Check.is)
 
-pub returns-in-Write : goal.returns-in-Write
+pub returns-in-Write-clause-step : goal.returns-in-Write-clause-step
 unfolding call_of lead_of fields_of
-returns-in-Write c = rw c.in-Write.is (c.do_write.ensures c.args.ports.now)
+returns-in-Write-clause-step c = rw c.in-Write.is (c.do_write.ensures.step c.args.ports.now)
 
-pub returns-in-Read : goal.returns-in-Read
-returns-in-Read c = rw c.in-Read.is c.do_read.ensures
+pub returns-in-Read-clause-step : goal.returns-in-Read-clause-step
+returns-in-Read-clause-step c = rw c.in-Read.is c.do_read.ensures.step
 
-pub returns-in-Assert : goal.returns-in-Assert
+pub returns-in-Assert-clause-step : goal.returns-in-Assert-clause-step
 unfolding call_of lead_of fields_of
-returns-in-Assert c = rw c.in-Assert.is (c.do_assert.ensures c.args.ports.now)
+returns-in-Assert-clause-step c = rw c.in-Assert.is (c.do_assert.ensures.step c.args.ports.now)
 
-pub returns-in-Check : goal.returns-in-Check
+pub returns-in-Check-clause-step : goal.returns-in-Check-clause-step
 unfolding call_of lead_of fields_of
-returns-in-Check c = rw c.in-Check.is (c.do_check.ensures c.args.ports.now)
+returns-in-Check-clause-step c = rw c.in-Check.is (c.do_check.ensures.step c.args.ports.now)
 
-pub returns-in-Unknown : goal.returns-in-Unknown
-returns-in-Unknown c = absurd (unknown_not c.in-Unknown.is c.requires.2)
+pub returns-in-Unknown-clause-step : goal.returns-in-Unknown-clause-step
+returns-in-Unknown-clause-step c = absurd (unknown_not c.in-Unknown.is c.requires.2)

@@ -1,8 +1,8 @@
 use Rattle.casefile.proofs.RestLaws.{case-done, case-refused}
 use Rattle.casefile.proofs.run_case.Goals as goal
 
-pub returns-in-Done : goal.returns-in-Done
-returns-in-Done c = case-done c.args.case.now c.args.words.now c.args.list.now c.args.text.now c.whole-r.new.words c.whole-r.new.list c.whole-r.new.buf c.whole-r.result c.whole-r.ensures c.in-Done.is
+pub returns-then-is_err : goal.returns-then-is_err
+returns-then-is_err c = case-refused c.args.case.now c.args.words.now c.args.list.now c.args.text.now _ _ _ _ c.whole-answer.ensures c.if-is_err.ensures.value c.whole-answer.auto.words c.whole-answer.auto.list c.whole-answer.auto.buf (c.fill.ensures.after (λ y e. e)) (c.fill-then-is_err.ensures.after (λ y e. e)) (c.fill-then-is_err-2.ensures.after (λ y e. e))
 
-pub returns-in-Refused : goal.returns-in-Refused
-returns-in-Refused c = case-refused c.args.case.now c.args.words.now c.args.list.now c.args.text.now c.whole-r.new.words c.whole-r.new.list c.whole-r.new.buf c.whole-r.result c.whole-r.ensures c.in-Refused.is c.whole-r.auto.words c.whole-r.auto.list c.whole-r.auto.buf c.zero_words.ensures c.zero_words-in-Refused.ensures c.zero_bytes.ensures
+pub returns-else-is_err : goal.returns-else-is_err
+returns-else-is_err c = case-done c.args.case.now c.args.words.now c.args.list.now c.args.text.now _ _ _ _ c.whole-answer.ensures c.if-is_err.ensures.value

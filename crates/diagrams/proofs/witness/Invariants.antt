@@ -5,7 +5,7 @@ use Rattle.diagrams.proofs.witness.Given as goal
 
 -- what is added up, and what the way down from here adds
 abbrev pub invariant-loop-n : goal.invariant-loop-n
-invariant-loop-n l = (l.n < l.count) × (l.a + witness_of l.words l.n ≡ witness_of l.words l.node)
+invariant-loop-n l = (l.n < l.d.count) × (l.a + witness_of l.d.words.now l.n ≡ witness_of l.d.words.now l.node)
 
 abbrev pub decreases-loop-n : goal.decreases-loop-n
 decreases-loop-n l = l.n

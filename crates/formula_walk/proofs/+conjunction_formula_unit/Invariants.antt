@@ -1,9 +1,7 @@
-use mathlib.Core.Path.{◌≡◌}
-use mathlib.Core.List.{List}
-use Prim.Native.Nat.{ℕ, ◌+◌, ◌*◌, ◌-◌}
-use lib.ListN.{length}
+use Rattle.std.proofs.Common.{ℕ, ◌+◌, ◌*◌, ◌-◌, List, length}
+use Rattle.conditions.specs.declared.builder.Builder.{Builder}
 use Rattle.formula_walk.specs.declared.Walk.{Walk}
-use Rattle.formula_walk.proofs.JoinLaws.{Joining, left_to}
+use Rattle.formula_walk.proofs.JoinLaws.{Joining}
 use Rattle.formula_walk.proofs.+conjunction_formula_unit.Given as goal
 
 -- three calls for each byte that is left, and the part's rank
@@ -13,12 +11,10 @@ decreases-conjunction l = 3 * (length l.text.now - l.x.at) + 1
 -- however far the conjunction had come behind its first unit, it has come as far behind this one
 abbrev pub invariant-conjunction-loop-g : goal.invariant-conjunction-loop-g
 invariant-conjunction-loop-g l =
-    (length l.words ≡ length l.initial.words) × (length l.out ≡ length l.initial.out)
-    × ((w out' : List ℕ) (x : Walk) → Joining l.g l.o l.text w out' x l.initial.words l.initial.table l.initial.out l.initial.y → Joining l.g l.o l.text w out' x l.words l.table l.out l.y)
+    (b : Builder) (out' : List ℕ) (x : Walk) → Joining l.g l.o l.text b out' x l.initial.build l.initial.out l.initial.y → Joining l.g l.o l.text b out' x l.build l.out l.y
 
 abbrev pub decreases-conjunction-loop-g : goal.decreases-conjunction-loop-g
-decreases-conjunction-loop-g l =
-    left_to l.text l.y.row l.y.at
+decreases-conjunction-loop-g l = length l.text - l.y.at
 
 abbrev pub decreases-formula : goal.decreases-formula
 decreases-formula l = 3 * (length l.text.now - l.x.at) + 2

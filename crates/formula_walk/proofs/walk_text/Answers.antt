@@ -1,17 +1,14 @@
-use Rattle.formula_walk.proofs.JoinLaws.{may-begin, walked}
+use Rattle.std.proofs.Common.{◌≡◌, Err, rules}
+use Rattle.formula_walk.proofs.JoinLaws.{may-begin, walked-stopped, walked}
 use Rattle.formula_walk.proofs.walk_text.Goals as goal
 
 pub formula-requires : goal.formula-requires
-formula-requires c = may-begin c.requires c.spaces-at.ensures.within
+formula-requires c = may-begin c.requires c.spaces.ensures.within
 
-pub ended-requires : goal.ended-requires
-ended-requires c = c.formula.ensures.within
-
-pub shape_of-words : goal.shape_of-words
-shape_of-words c = c.formula.auto.words
-
-pub shape_of-out : goal.shape_of-out
-shape_of-out c = c.formula.auto.out
+pub returns-in_err-y : goal.returns-in_err-y
+returns-in_err-y c =
+    let e : c.from_residual.result ≡ Err c.in_err-y.field-0.0 = search rules in
+    rw e (walked-stopped c.spaces.ensures c.in_err-y.ensures)
 
 pub returns : goal.returns
-returns c = walked c.spaces-at.ensures c.formula.ensures c.ended.ensures
+returns c = walked c.spaces.ensures c.in_ok-y.ensures c.ended.ensures

@@ -12,6 +12,6 @@ pub returns-then-words-lt6 : goal.returns-then-words-lt6
 unfolding row1
 returns-then-words-lt6 c = rw (test-holds c.in_range.ensures (ap not c.if-not-in_range.false), lt-leb _ _ c.if-words-lt6.true)
 
-pub returns-else-words-lt6 : goal.returns-else-words-lt6
+pub returns : goal.returns
 unfolding row1
-returns-else-words-lt6 c = rw (test-holds c.in_range.ensures (ap not c.if-not-in_range.false), le-leb _ _ c.if-words-lt6.false)
+returns c = rw (test-holds c.in_range.ensures (ap not c.if-not-in_range.false), le-leb _ _ c.if-words-lt6.false)

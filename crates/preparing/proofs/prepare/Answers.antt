@@ -1,34 +1,51 @@
-use mathlib.Core.Path.{refl}
-use native.Mathlib.Omega.{arith}
-use Rattle.preparing.proofs.PrepareLaws.{prepared-faulty, prepared-short, may_build, may_clear, prepared-nine, prepared-list, prepared-listed}
+use Rattle.std.proofs.Common.{◌≡◌, Ok, Err, refl, rules}
+use Rattle.refusals.specs.declared.Refusal.TheVariants.{StoreFull}
+use Rattle.rows.specs.Contract.{Cleared}
+use Rattle.preparing.specs.declared.Unlisted.TheVariants.{Refused, Faulty}
+use Rattle.preparing.proofs.PrepareLaws.{prepared-faulty, prepared-short, may_build, builds-read, prepared-nine, prepared-list, prepared-listed}
 use Rattle.preparing.proofs.prepare.Goals as goal
 
-pub walk_text-x-requires : goal.walk_text-x-requires
-walk_text-x-requires c = rw c.begin-s.ensures (record { sound = c.requires.sound; two = c.requires.standard.two; older = omega arith; counts = refl })
-
-pub returns-then-x-ne0 : goal.returns-then-x-ne0
-returns-then-x-ne0 c = prepared-faulty c.args.predicates.now c.requires (rw (c.predicate_words.ensures, c.begin-s.ensures) at c.walk_text-x.ensures) c.if-x-ne0.true
+pub returns-in_err-x : goal.returns-in_err-x
+returns-in_err-x c =
+    let e : c.from_residual.result ≡ Err (Faulty c.in_err-x.field-0.0) = search rules in
+    let W = rw c.predicate_words.ensures at c.in_err-x.ensures in
+    rw e (prepared-faulty c.args.predicates.now c.requires c.begin.ensures W (search rules))
 
 pub returns-then-answer-x : goal.returns-then-answer-x
-returns-then-answer-x c = prepared-short c.args.predicates.now c.requires (rw (c.predicate_words.ensures, c.begin-s.ensures) at c.walk_text-x.ensures) c.if-x-ne0.false c.if-answer-x.true
+returns-then-answer-x c =
+    let W = rw c.predicate_words.ensures at c.in_ok-x.ensures in
+    prepared-short c.args.predicates.now c.requires c.begin.ensures W c.if-answer-x.true (search rules)
 
-pub walk_text-y-requires : goal.walk_text-y-requires
-walk_text-y-requires c = rw (c.predicate_words.ensures, c.begin-s.ensures) (may_build c.args.predicates.now c.requires (rw (c.predicate_words.ensures, c.begin-s.ensures) at c.walk_text-x.ensures) c.if-x-ne0.false)
+pub walk_text-requires-2 : goal.walk_text-requires-2
+walk_text-requires-2 c =
+    let W = rw c.predicate_words.ensures at c.in_ok-x.ensures in
+    rw c.predicate_words.ensures (may_build c.args.predicates.now c.requires c.begin.ensures W)
 
-pub clear_where-requires : goal.clear_where-requires
-clear_where-requires c = may_clear c.args.predicates.now c.requires (rw (c.predicate_words.ensures, c.begin-s.ensures) at c.walk_text-x.ensures) c.if-x-ne0.false c.if-answer-x.false (rw (c.predicate_words.ensures, c.begin-s.ensures) at c.walk_text-y.ensures)
+pub unwrap-requires : goal.unwrap-requires
+unwrap-requires c =
+    let W = rw c.predicate_words.ensures at c.in_ok-x.ensures in
+    let Y = rw c.predicate_words.ensures at c.walk_text-2.ensures in
+    builds-read c.args.predicates.now c.requires c.begin.ensures W Y
 
-pub returns-then-clear_where : goal.returns-then-clear_where
-returns-then-clear_where c = prepared-nine c.args.predicates.now c.requires (rw (c.predicate_words.ensures, c.begin-s.ensures) at c.walk_text-x.ensures) c.if-x-ne0.false c.if-answer-x.false (rw (c.predicate_words.ensures, c.begin-s.ensures) at c.walk_text-y.ensures) c.clear_where.ensures c.if-clear_where.true
+pub returns-in_err-clear_where : goal.returns-in_err-clear_where
+returns-in_err-clear_where c =
+    let W = rw c.predicate_words.ensures at c.in_ok-x.ensures in
+    let Y = rw c.predicate_words.ensures at c.walk_text-2.ensures in
+    let o : Cleared c.walk_text-2.new.build.words.now c.args.r.count c.walk_text-2.new.build.store.full StoreFull c.clear_where.new.words (Err c.in_err-clear_where.field-0.0) = search rules in
+    let e : c.from_residual-in_err-clear_where.result ≡ Err (Refused c.in_err-clear_where.field-0.0) = search rules in
+    rw e (prepared-nine c.args.predicates.now c.requires c.begin.ensures W c.if-answer-x.false Y c.unwrap.ensures o)
 
 pub list_steps-requires : goal.list_steps-requires
-list_steps-requires c = rw c.predicate_words.ensures (prepared-list c.args.predicates.now c.requires (rw (c.predicate_words.ensures, c.begin-s.ensures) at c.walk_text-x.ensures) c.if-x-ne0.false c.if-answer-x.false (rw (c.predicate_words.ensures, c.begin-s.ensures) at c.walk_text-y.ensures) c.clear_where.ensures c.if-clear_where.false)
-
-pub shape_of-words : goal.shape_of-words
-shape_of-words c = omega (arith, c.walk_text-x.auto.words, c.walk_text-y.auto.words, c.clear_where.auto.words, c.list_steps.auto.words)
-
-pub shape_of-answer : goal.shape_of-answer
-shape_of-answer c = omega (arith, c.walk_text-x.auto.out, c.walk_text-y.auto.out, c.list_steps.auto.answer)
+list_steps-requires c =
+    let W = rw c.predicate_words.ensures at c.in_ok-x.ensures in
+    let Y = rw c.predicate_words.ensures at c.walk_text-2.ensures in
+    let o : Cleared c.walk_text-2.new.build.words.now c.args.r.count c.walk_text-2.new.build.store.full StoreFull c.clear_where.new.words (Ok tt) = search rules in
+    rw c.predicate_words.ensures (prepared-list c.args.predicates.now c.requires c.begin.ensures W c.if-answer-x.false Y c.unwrap.ensures o refl refl)
 
 pub returns : goal.returns
-returns c = prepared-listed c.args.predicates.now c.requires (rw (c.predicate_words.ensures, c.begin-s.ensures) at c.walk_text-x.ensures) c.if-x-ne0.false c.if-answer-x.false (rw (c.predicate_words.ensures, c.begin-s.ensures) at c.walk_text-y.ensures) c.clear_where.ensures c.if-clear_where.false (rw c.predicate_words.ensures at c.list_steps.ensures)
+returns c =
+    let W = rw c.predicate_words.ensures at c.in_ok-x.ensures in
+    let Y = rw c.predicate_words.ensures at c.walk_text-2.ensures in
+    let L = rw c.predicate_words.ensures at c.list_steps.ensures in
+    let o : Cleared c.walk_text-2.new.build.words.now c.args.r.count c.walk_text-2.new.build.store.full StoreFull c.clear_where.new.words (Ok tt) = search rules in
+    prepared-listed c.args.predicates.now c.requires c.begin.ensures W c.if-answer-x.false Y c.unwrap.ensures o refl refl L (search rules) (search rules)

@@ -1,7 +1,7 @@
+use Rattle.text.proofs.WriterLaws.{◌then◌}
 use Rattle.lines.specs.Lines.{refused_line}
-use Rattle.printing.proofs.LineLaws.{two_parts}
 use Rattle.printing.proofs.put_refused.Goals as goal
 
 pub returns : goal.returns
 unfolding refused_line
-returns c = two_parts _ _ _ (two_parts _ _ _ (two_parts _ _ _ (two_parts _ _ _ c.put_bytes-a.ensures c.put_decimal-b.ensures) c.put_bytes-c.ensures) c.put_decimal-d.ensures) c.put_byte.ensures
+returns c = c.put_bytes.ensures then c.put_decimal.ensures then c.put_bytes-2.ensures then c.put_decimal-2.ensures then c.put_byte.ensures

@@ -1,5 +1,5 @@
 use Rattle.model.specs.Rows.{row1}
-use mathlib.Core.Path.{refl}
+use Rattle.std.proofs.Common.{refl}
 use Rattle.ranges.proofs.in_range.Goals as goal
 
 pub returns : goal.returns

@@ -1,5 +1,4 @@
-use mathlib.Core.Path.{sym, ◌∙◌}
-use native.Mathlib.Omega.{arith}
+use Rattle.std.proofs.Common.{sym, ◌∙◌, arith}
 use Rattle.rows.specs.Contract.{ported_of}
 use Rattle.rows.proofs.CallLaws.{valid_few, valid-standard}
 use Rattle.read_access.proofs.ReadLaws.{read-port, read_row_is}
@@ -12,7 +11,7 @@ returns-then-port-gt3 c =
 
 pub argument_row-requires : goal.argument_row-requires
 argument_row-requires c =
-    let s = ported_of c.args.r c.args.words.now c.args.list.now c.args.ports.now in
+    let s = (ported_of c.args.r c.args.words.now c.args.list.now c.args.ports.now) in
     let p = c.requires in
     let f = valid_few s p.0 in
     (valid-standard s p.0, f.0, p.3, omega (arith, p.2), omega arith, omega arith, omega arith)

@@ -1,10 +1,7 @@
-use Rattle.model.proofs.ListLaws.{capacity-words, capacity-most, room-words}
+use Rattle.std.proofs.Common.{arith}
+use Rattle.model.proofs.ListLaws.{room-words}
 use Rattle.model.specs.Record.{appended}
-use native.Mathlib.Omega.{arith}
 use Rattle.rows.proofs.append_entry.Goals as goal
-
-pub overflow_mul-at : goal.overflow_mul-at
-overflow_mul-at c = let p = c.requires in rw c.entry_words.ensures (omega (arith, capacity-words _ _ _ p.space, capacity-most _ _ _ p.space))
 
 pub append-requires : goal.append-requires
 append-requires c =

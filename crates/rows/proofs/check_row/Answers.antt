@@ -1,5 +1,4 @@
-use mathlib.Core.Path.{sym, ◌∙◌}
-use native.Mathlib.Omega.{arith}
+use Rattle.std.proofs.Common.{sym, ◌∙◌, arith}
 use Rattle.rows.specs.Contract.{state_of}
 use Rattle.rows.proofs.CallLaws.{valid_few, valid-standard, check_row_is}
 use Rattle.rows.proofs.check_row.Goals as goal

@@ -1,16 +1,13 @@
 use Rattle.std.proofs.Common.{ap, not}
 use Rattle.nodes.proofs.TestLaws.{test_fails, test-holds}
 use Rattle.model.specs.Rows.{row1}
+use Rattle.rows.proofs.CallLaws.{store_read}
 use Rattle.rows.proofs.store_row.Goals as goal
 
-pub returns-then-not-x : goal.returns-then-not-x
+pub returns-then-not-in_range : goal.returns-then-not-in_range
 unfolding row1
-returns-then-not-x c = rw (test_fails c.in_range-x.ensures (ap not c.if-not-x.true))
+returns-then-not-in_range c = (rw (test_fails c.in_range.ensures (ap not c.if-not-in_range.true)), tt)
 
-pub returns-then-y : goal.returns-then-y
+pub returns : goal.returns
 unfolding row1
-returns-then-y c = rw (test-holds c.in_range-x.ensures (ap not c.if-not-x.false), ← c.is_standard-y.ensures, c.if-y.true)
-
-pub returns-else-y : goal.returns-else-y
-unfolding row1
-returns-else-y c = rw (test-holds c.in_range-x.ensures (ap not c.if-not-x.false), ← c.is_standard-y.ensures, c.if-y.false)
+returns c = rw c.ok_or.ensures.value (store_read c.args.r c.args.words.now (rw (test-holds c.in_range.ensures (ap not c.if-not-in_range.false))) c.read.result c.read.ensures)

@@ -1,4 +1,4 @@
-use Prim.Native.Nat.{◌-◌}
+use Rattle.std.proofs.Common.{◌-◌}
 use Rattle.searching.specs.Children.{Passed}
 use Rattle.searching.proofs.pass.Given as goal
 

@@ -1,4 +1,4 @@
-use Prim.Native.Nat.{◌-◌}
+use Rattle.std.proofs.Common.{◌-◌}
 use Rattle.searching.proofs.SearchingLaws.{Came}
 use Rattle.searching.proofs.search.Given as goal
 

@@ -2,4 +2,4 @@ use Rattle.sums.proofs.PairLaws.{carry_did}
 use Rattle.sums.proofs.carry_bit.Goals as goal
 
 pub returns : goal.returns
-returns c = rw c.paired.ensures (carry_did c.args.a c.args.c _ c.args.one c.either-h.ensures c.either-l.ensures)
+returns c = carry_did c.args.a c.args.c c.args.one c.either-h.ensures c.either-l.ensures

@@ -1,10 +1,9 @@
-use Prim.Native.Nat.{◌+◌}
-use native.Mathlib.Omega.{arith}
-use Rattle.tokens.proofs.TokenLaws.{digits_behind}
+use Rattle.std.proofs.Common.{◌+◌, arith}
+use Rattle.tokens.proofs.TokenLaws.{rest_behind, node_chosen}
 use Rattle.tokens.proofs.node_token.Goals as goal
 
 pub number_token-requires : goal.number_token-requires
-number_token-requires c = (c.requires.0, digits_behind {at = c.args.at} {j = c.args.at + 1} (omega arith) c.digits-d.ensures, c.is_node-good.ensures.small)
+number_token-requires c = (c.requires, rest_behind {j = c.args.at + 1} (omega arith) c.read_number-n.ensures.left)
 
 pub returns : goal.returns
-returns c = c.number_token.ensures _ c.is_node-good.ensures
+returns c = c.number_token.ensures _ (node_chosen c.args.text.now c.args.at (c.args.at + 1) c.args.d.words.now c.args.d.count c.args.d.standard (omega arith) c.read_number-n.ensures.is c.good_node.ensures)

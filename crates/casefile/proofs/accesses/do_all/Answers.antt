@@ -1,24 +1,26 @@
+use Rattle.std.proofs.Common.{◌≡◌, Err, rules}
 use Rattle.casefile.proofs.RestLaws.{done_none, done_more, done-stop, done_all}
-use native.Mathlib.Omega.{arith}
-use Prim.Native.Nat.{◌-◌}
-use mathlib.Core.Path.{refl}
-use borrow.Author.Rules.{rules}
+use Rattle.casefile.specs.Contract.{after_as}
 use Rattle.casefile.proofs.accesses.do_all.Goals as goal
 
-pub loop-i-init : goal.loop-i-init
-loop-i-init c = (refl, refl, refl, done_none _ _ _ _ _ _ _ _ c.requires.0 c.requires.1)
+pub loop-after-init : goal.loop-after-init
+loop-after-init c = done_none _ _ _ _ _ _ _ _ c.requires.0 c.requires.1
 
-pub do_one-r-requires : goal.do_one-r-requires
-do_one-r-requires c = (c.loop-i.invariant.3.ready, c.loop-i.invariant.3.ports)
+pub do_one-requires : goal.do_one-requires
+do_one-requires c = (c.loop-after.invariant.ready, c.loop-after.invariant.ports)
 
-pub overflow_add-i : goal.overflow_add-i
-overflow_add-i c = record { fits = omega (arith, c.loop-i-test.true, c.ranges.accesses.fits) }
+pub returns-in_err-c-clause-end : goal.returns-in_err-c-clause-end
+returns-in_err-c-clause-end c =
+    let m : c.map_err.result ≡ after_as c.loop-after.after-counter c.do_one.result = search rules in
+    let q : c.from_residual.result ≡ Err c.in_err-c.field-0.0 = search rules in
+    done-stop c.loop-after.invariant c.loop-after-test.true m c.in_err-c.was q c.do_one.ensures.step.0
 
-pub loop-i-preserved : goal.loop-i-preserved
-loop-i-preserved c = (search rules, search rules, search rules, done_more c.loop-i.invariant.3 c.loop-i-test.true c.in-On.is c.do_one-r.ensures)
+pub loop-after-preserved : goal.loop-after-preserved
+loop-after-preserved c =
+    let m : c.map_err.result ≡ after_as c.loop-after.after-counter c.do_one.result = search rules in
+    done_more c.loop-after.invariant c.loop-after-test.true m c.in_ok-c.was c.do_one.ensures.step c.do_one.ensures.same
 
-pub returns-in-Refused : goal.returns-in-Refused
-returns-in-Refused c = done-stop c.loop-i.invariant.3 c.loop-i-test.true c.in-Refused.is c.do_one-r.ensures.0
-
-pub returns : goal.returns
-returns c = done_all c.loop-i.invariant.3 c.loop-i-test.false (c.finish.ensures _ _ _)
+pub returns-clause-end : goal.returns-clause-end
+returns-clause-end c =
+    let m : c.map_err-2.result ≡ after_as c.args.accesses c.finish.result = search rules in
+    done_all c.loop-after.invariant c.loop-after-test.false (rw m (c.finish.ensures.last _ _ _ _))

@@ -1,7 +1,7 @@
-use mathlib.Core.Path.{refl}
+use Rattle.std.proofs.Common.{refl}
 use Rattle.model.specs.Step.{write}
 use Rattle.memory.proofs.HandLaws.{handed}
 use Rattle.memory.proofs.Record.write.Goals as goal
 
 pub returns : goal.returns
-returns c = handed (write c.args.enable.now c.args.address.now c.args.«data».now) refl c.args.self c.args.words.now c.args.list.now c.write_result.result.after _ _ _ c.write_result.ensures c.write.ensures
+returns c = handed (write c.args.enable.now c.args.address.now c.args.«data».now) refl c.args.self c.args.words.now c.args.list.now _ _ _ _ c.write-answer.ensures

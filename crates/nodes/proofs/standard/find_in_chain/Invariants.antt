@@ -1,9 +1,7 @@
-use mathlib.Core.Path.{◌≡◌}
+use Rattle.std.proofs.Common.{◌≡◌, ◌-◌}
 use Rattle.nodes.specs.Certificate.{walk}
 use Rattle.nodes.proofs.standard.find_in_chain.Given as goal
 
-abbrev pub invariant-loop-i : goal.invariant-loop-i
-invariant-loop-i l = walk l.words l.next l.count l.x l.i l.n ≡ walk l.words l.next l.count l.x 32 l.from
-
-abbrev pub decreases-loop-i : goal.decreases-loop-i
-decreases-loop-i l = l.i
+-- `counter` has the turns that were made.
+abbrev pub invariant-loop : goal.invariant-loop
+invariant-loop l = walk l.words l.next l.count l.x (32 - l.counter) l.n ≡ walk l.words l.next l.count l.x 32 l.from

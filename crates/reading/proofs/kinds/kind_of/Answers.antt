@@ -1,4 +1,4 @@
-use mathlib.Core.Path.{sym, ap}
+use Rattle.std.proofs.Common.{sym, ap, arith}
 use Rattle.format.specs.Kinds.{kind_of}
 use Rattle.format.proofs.KindLaws.{kind_other}
 use Rattle.reading.proofs.kinds.kind_of.Goals as goal
@@ -20,4 +20,4 @@ unfolding kind_of
 returns-in-4 c = sym (ap kind_of c.in-4.is)
 
 pub returns-in_default : goal.returns-in_default
-returns-in_default c = let r = c.in_default.in_default-own.rest in kind_other c.args.b r.0.0.0.1 r.0.0.1 r.0.1 r.1
+returns-in_default c = kind_other _ (omega arith) (omega arith) (omega arith) (omega arith)

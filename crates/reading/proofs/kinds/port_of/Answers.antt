@@ -1,9 +1,12 @@
-use Rattle.reading.proofs.LayoutLaws.{port-none, port-byte}
-use mathlib.Core.Path.{sym, ◌∙◌}
+use Rattle.std.proofs.Common.{rules}
+use Rattle.format.specs.Fields.{fields_of}
+use Rattle.reading.specs.Layout.{port_of}
 use Rattle.reading.proofs.kinds.port_of.Goals as goal
 
-pub returns-then-lead-eq0 : goal.returns-then-lead-eq0
-returns-then-lead-eq0 c = port-none _ _ (sym c.lead.ensures ∙ c.if-lead-eq0.true)
+pub returns-in-Read : goal.returns-in-Read
+unfolding port_of fields_of
+returns-in-Read c = rw c.in-Read.is c.from.ensures
 
-pub returns-else-lead-eq0 : goal.returns-else-lead-eq0
-returns-else-lead-eq0 c = port-byte _ _ (λ z. c.if-lead-eq0.false (c.lead.ensures ∙ z))
+pub returns-in_default : goal.returns-in_default
+unfolding port_of fields_of
+returns-in_default c = search rules

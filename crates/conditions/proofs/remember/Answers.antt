@@ -1,4 +1,0 @@
-use Rattle.conditions.proofs.remember.Goals as goal
-
-pub returns : goal.returns
-returns c = rw (c.slot-i.ensures.0, c.key.ensures.0)

@@ -1,7 +1,0 @@
-use Rattle.lines.specs.Lines.{end_line}
-use Rattle.printing.proofs.LineLaws.{two_parts}
-use Rattle.printing.proofs.put_end.Goals as goal
-
-pub returns : goal.returns
-unfolding end_line
-returns c = two_parts _ _ _ (two_parts _ _ _ c.put_bytes-a.ensures c.put_decimal-b.ensures) c.put_byte.ensures

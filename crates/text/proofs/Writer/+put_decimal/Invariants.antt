@@ -1,0 +1,5 @@
+use Rattle.text.proofs.Writer.+put_decimal.Given as goal
+
+-- The number falls.
+abbrev pub decreases-put_decimal : goal.decreases-put_decimal
+decreases-put_decimal l = l.x
