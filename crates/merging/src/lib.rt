@@ -59,7 +59,7 @@ pub fn each_half<F: Fn(&mut Builder, usize, DataNode) -> u32>(
 }
 
 // The halves of an entry merged into those of a word, by its h and s where it matches.
-fn merge(build: &mut Builder, hard: u32, soft: u32, data: &[u32], word: &mut [u32])
+pub fn merge(build: &mut Builder, hard: u32, soft: u32, data: &[u32], word: &mut [u32])
     requires { (hard < build.old.store.count) × (soft < build.old.store.count) × (length word.old ≤ length «data».now) × Nodes build.old.store.count «data».now × Nodes build.old.store.count word.old }
     ensures { WordDid build.old build.new word.new (EachHalf (λ k. merge_half hard soft (get_or «data».now k 0)) (length word.old) word.old) }
 {

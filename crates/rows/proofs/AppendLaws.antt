@@ -1,11 +1,22 @@
 -- Words stored into a list from a place on, and an entry stored part by part.
 use mathlib.Core.Path.{◌≡◌, sym, ap, subst, ◌∙◌}
 use mathlib.Core.List.{List, [], ◌∷◌, ◌++◌, append_assoc}
-use Prim.Native.Nat.{ℕ, ◌+◌, ◌≤◌}
+use Prim.Native.Nat.{ℕ, suc, ◌+◌, ◌<◌, ◌≤◌}
 use native.Mathlib.Numerals.{add-one}
 use native.Mathlib.Omega.{arith}
-use lib.ListN.{length, set, take, drop, length-append}
-use lib.Seq.{take_at, length-take-le, drop-append-add, drop-drop, sets-eq}
+use lib.ListN.{length, get_or, set, take, drop, length-append}
+use lib.Seq.{take_at, length-take-le, drop-append-add, drop-drop, paste-zero, paste-suc, sets-eq}
+
+-- a copy word by word
+pub copy-none : (at : ℕ) (m l : List ℕ) → l ≡ take at l ++ (take 0 m ++ drop (at + 0) l)
+copy-none at m l = paste-zero l at m ∙ append_assoc (take at l) (take 0 m) (drop (at + 0) l)
+
+pub copy_more : (at k : ℕ) (m l : List ℕ) → k < length m → at + k < length l → set (take at l ++ (take k m ++ drop (at + k) l)) (at + k) (get_or m k 0) ≡ take at l ++ (take (k + 1) m ++ drop (at + (k + 1)) l)
+copy_more at k m l i j =
+    ap (λ (t : List ℕ). set t (at + k) (get_or m k 0)) (sym (append_assoc (take at l) (take k m) (drop (at + k) l)))
+    ∙ paste-suc l at m k 0 j i
+    ∙ append_assoc (take at l) (take (suc k) m) (drop (at + suc k) l)
+    ∙ ap (λ (t : ℕ). take at l ++ (take t m ++ drop (at + t) l)) (sym (add-one k))
 
 -- what a copy leaves
 abbrev pub copied : List ℕ → ℕ → List ℕ → List ℕ

@@ -1,12 +1,14 @@
 // An entry written into the list.
 ghost use Rattle.std.specs.Prelude.{◌≡◌, List, ◌∷◌, ◌++◌, ℕ, ◌+◌, ◌*◌, ◌<◌, ◌≤◌, length, take, drop};
 
-// The words of a slice, from a place on.
+// The words of a slice, from a place on. Word by word: by `copy_from_slice` the archive would want `memmove` of those who link it.
 pub fn copy(list: &mut [u32], at: usize, slice: &[u32])
     requires { at + length slice.now ≤ length list.old }
     ensures { list.new ≡ take at list.old ++ (slice.now ++ drop (at + length slice.now) list.old) }
 {
-    list[at..at + slice.len()].copy_from_slice(slice);
+    for k in 0..slice.len() {
+        list[at + k] = slice[k];
+    }
 }
 
 // h, s, address and data of an entry, from a place on.

@@ -9,11 +9,16 @@ ghost use Rattle.rows.specs.Contract.{FirstNodes};
 use building::ControlNode;
 use conditions::Diagrams;
 
-// Whether row 5 accepts each word.
+// Whether row 5 accepts each word. By place: every call with a list tests it whole, and by `all` it took a quarter more time.
 pub fn all_users(d: Diagrams, slice: &[u32]) -> bool
     ensures { result ≡ every (λ (i : ℕ). is_user d.entry.words.now d.entry.count (get_or slice.now i 0)) 0 (length slice.now) }
 {
-    slice.iter().all(|x| conditions::is_user(d, *x))
+    for i in 0..slice.len() {
+        if !conditions::is_user(d, slice[i]) {
+            return false;
+        }
+    }
+    true
 }
 
 // Whether none of the first k pairs is at fault.

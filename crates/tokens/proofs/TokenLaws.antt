@@ -1,7 +1,8 @@
 -- Bytes, spaces and digits at a place of a text, and the tokens that are made of them.
-use Rattle.std.proofs.Common.{◌≡◌, ◌==◌, ℕ, zero, suc, ◌+◌, ◌-◌, ◌<◌, ◌≤◌, Bool, true, false, cond, ◌&&◌, List, [], ◌∷◌, length, get_or, drop, take, take_while, fold, T, eqb, ltb, leb, leb→le, le→leb, eqb→eq, Option, Some, None, Ok, Err, refl, sym, ap, subst, ◌∙◌, true≢false, arith, length-drop, drop-drop, drop-cons, ap₂, le-ltb, ltb-true, ltb-false}
+use Rattle.std.proofs.Common.{◌≡◌, ◌==◌, ℕ, zero, suc, ◌+◌, ◌-◌, ◌<◌, ◌≤◌, Bool, true, false, cond, ◌&&◌, List, [], ◌∷◌, length, get_or, drop, take, take_while, fold, T, eqb, ltb, leb, leb→le, le→leb, eqb→eq, Option, Some, None, Result, Ok, Err, refl, sym, ap, subst, ◌∙◌, true≢false, arith, length-drop, drop-drop, drop-cons, ap₂, lt-ltb, le-ltb, ltb-true, ltb-false, min}
 use Rattle.std.proofs.Math.Seq.{take-length}
 use Rattle.std.specs.List.{prefix_len}
+use Rattle.std.specs.Result.{OkIff, result_ok}
 use Rattle.std.proofs.lemmas.List.Folds.{length-prefix_len}
 use Rattle.std.proofs.lemmas.List.Sums.{prefix_len-le-length}
 use Rattle.formulas.specs.Language.{digit, joined}
@@ -11,7 +12,7 @@ use Rattle.conditions.specs.Stores.{Standard}
 use Rattle.conditions.specs.User.{is_user}
 use Rattle.conditions.proofs.Promises.{user_is}
 use Rattle.refusals.specs.declared.Refusal.TheVariants as row
-use Rattle.tokens.specs.Contract.{Left, starts, value_of, rest_of, fitted, joined_to, Took, took, stops, TookAt, where_good, kept, within_table, opens, opener_token, arrow_token, number_token}
+use Rattle.tokens.specs.Contract.{Left, starts, value_of, rest_of, fitted, joined_to, joined_up, Took, took, stops, TookAt, where_good, kept, within_table, opens, opener_token, arrow_token, number_token}
 
 pub head_is : (c : ℕ) (s : List ℕ) → starts c s ≡ true → s ≡ c ∷ drop 1 s
 head_is c [] e = absurd (true≢false (sym e))
@@ -83,6 +84,24 @@ joined-fitted a c = go (ltb a 4294967296) refl
 folds-fitted : (a : ℕ) (s : List ℕ) → fold joined_to (fitted a) s ≡ fitted (fold joined a s)
 folds-fitted a [] = refl
 folds-fitted a (c ∷ s) = ap (λ (v : Option ℕ). fold joined_to v s) (joined-fitted a c) ∙ folds-fitted (joined a c) s
+
+-- a digit joined to at most 4,294,967,296 gives the same value
+joined_up-fitted : (a c : ℕ) → fitted (joined_up a c) ≡ joined_to (fitted a) c
+joined_up-fitted a c = go (ltb a 4294967296) refl
+  where
+    go : (b : Bool) → ltb a 4294967296 ≡ b → fitted (joined_up a c) ≡ joined_to (cond b (Some a) None) c
+    go true e = let q : min a 4294967296 ≡ a = omega (arith, ltb-true a 4294967296 e) in ap (λ (n : ℕ). fitted (joined n c)) q
+    go false e = ap (λ (b : Bool). cond b (Some (joined_up a c)) None) (le-ltb (joined_up a c) 4294967296 (omega (arith, ltb-false a 4294967296 e)))
+
+-- a number turned to 32 bits, where it fits
+pub fitted_by : {E : Type 0} (r : Result ℕ E) (n : ℕ) → OkIff r (n < 4294967296) n → result_ok r ≡ fitted n
+fitted_by (Ok x) n h = rw (lt-ltb n 4294967296 h.0) (ap Some h.1)
+fitted_by (Err e) n h = ap (λ (b : Bool). cond b (Some n) None) (sym (le-ltb n 4294967296 (omega (arith, h))))
+
+-- and so do all digits
+pub folds-up : (a : ℕ) (s : List ℕ) → fitted (fold joined_up a s) ≡ fold joined_to (fitted a) s
+folds-up a [] = refl
+folds-up a (c ∷ s) = folds-up (joined_up a c) s ∙ ap (λ (v : Option ℕ). fold joined_to v s) (joined_up-fitted a c)
 
 pub value_is : (text : List ℕ) (at n : ℕ) (v : Option ℕ) → n ≡ length (take_while digit (take (length text - at) (drop at text))) → v ≡ fold joined_to (Some 0) (take n (take (length text - at) (drop at text))) → v ≡ fitted (value_of (drop at text))
 value_is text at n v e f =

@@ -1,5 +1,5 @@
 -- What the functions of tokens promise, in the terms of the reader.
-use Rattle.std.specs.Prelude.{◌≡◌, Bool, true, false, cond, ◌&&◌, List, ◌∷◌, ℕ, zero, suc, ◌≤◌, ltb, leb, length, get_or, drop, Option, Some, None, Result, Ok, Err}
+use Rattle.std.specs.Prelude.{◌≡◌, Bool, true, false, cond, ◌&&◌, List, ◌∷◌, ℕ, zero, suc, ◌≤◌, ltb, leb, min, length, get_or, drop, Option, Some, None, Result, Ok, Err}
 use Rattle.formulas.specs.Language.{joined}
 use Rattle.formulas.specs.Reading.{spaces, byte, digits, numbered}
 use Rattle.refusals.specs.Refusal.{number}
@@ -30,6 +30,10 @@ fitted n = cond (ltb n 4294967296) (Some n) None
 abbrev pub joined_to : Option ℕ → ℕ → Option ℕ
 joined_to None c = None
 joined_to (Some a) c = fitted (joined a c)
+
+-- a digit joined to a number, or to 4,294,967,296 where that is less
+abbrev pub joined_up : ℕ → ℕ → ℕ
+joined_up a c = joined (min a 4294967296) c
 
 -- the digits with which s begins have this value, where it is below 4,294,967,296, and end at this place
 pub record NumberIs (text s : List ℕ) (d : Number) : Type 0 where

@@ -5,7 +5,7 @@ ghost use Rattle.std.specs.Prelude.{◌≡◌, ◌==◌, ℕ, suc, ◌<◌, ◌�
 ghost use Rattle.std.specs.Char.{is_ascii_digit};
 ghost use Rattle.formulas.specs.Reading as reading;
 ghost use Rattle.conditions.specs.User.{is_user};
-ghost use Rattle.tokens.specs.Contract.{Left, starts, value_of, rest_of, joined_to, NumberIs, kept, TookAt, NumberTook, number_token, within_table, arrow_token, when_token, opener_token};
+ghost use Rattle.tokens.specs.Contract.{Left, starts, value_of, rest_of, joined_to, joined_up, NumberIs, kept, TookAt, NumberTook, number_token, within_table, arrow_token, when_token, opener_token};
 
 use conditions::Diagrams;
 use refusals::Refusal;
@@ -60,19 +60,25 @@ pub fn spaces(text: &[u8], at: usize) -> usize
     at + count_spaces(&text[at..])
 }
 
-// A digit joined to a value, where the value that they make is below 4,294,967,296.
-fn join(value: Option<u32>, c: u8) -> Option<u32>
-    ensures { result ≡ joined_to value c }
+// A digit joined to a value, or, where that is past 4,294,967,296, to this number: what they make is past it then too. No Option of a value: by one a digit of a number that is below takes twice the time.
+fn join(value: u64, c: u8) -> u64
+    ensures { result ≡ joined_up value c }
 {
-    let tens = value?.checked_mul(10)?;
-    tens.checked_add(c.saturating_sub(b'0') as u32)
+    10 * value.min(4294967296) + u64::from(c.saturating_sub(b'0'))
+}
+
+// The value of digits, or a number past 4,294,967,295 where it is.
+fn joined_all(digits: &[u8]) -> u64
+    ensures { result ≡ fold joined_up 0 digits.now }
+{
+    digits.iter().fold(0, |v, c| join(v, *c))
 }
 
 // The value of digits, where it is below 4,294,967,296.
 fn value_of(digits: &[u8]) -> Option<u32>
     ensures { result ≡ fold joined_to (Some 0) digits.now }
 {
-    digits.iter().fold(Some(0), |v, c| join(v, *c))
+    u32::try_from(joined_all(digits)).ok()
 }
 
 // The digits that stand here.

@@ -1,4 +1,5 @@
-use Rattle.casefile.proofs.RestLaws.{case-done, case-refused}
+use Rattle.casefile.proofs.RestLaws.{case-done}
+use Rattle.casefile.proofs.RestLaws.{case-refused}
 use Rattle.casefile.proofs.run_case.Goals as goal
 
 pub returns-then-is_err : goal.returns-then-is_err

@@ -1,11 +1,12 @@
-use Rattle.std.proofs.Common.{◌∙◌, rules, tests}
-use Rattle.std.proofs.lemmas.Iterator.{YieldsList-from_slice}
-use Rattle.std.proofs.lemmas.Iterator.Search.{all_from_yields_List}
-use Rattle.conditions.specs.User.{is_user}
-use Rattle.rows.proofs.SliceLaws.{all-items}
+use Rattle.std.proofs.Common.{not, ap, arith}
+use Rattle.nodes.proofs.TestLaws.{every_fails, every-goes_on, every-stops}
 use Rattle.rows.proofs.slices.all_users.Goals as goal
 
+pub returns-then-not-is_user : goal.returns-then-not-is_user
+returns-then-not-is_user c = every_fails _ _ _ c.loop-i.invariant c.loop-i-test.true c.is_user.ensures (ap not c.if-not-is_user.true)
+
+pub loop-i-preserved : goal.loop-i-preserved
+loop-i-preserved c = every-goes_on _ _ _ c.loop-i.invariant c.loop-i-test.true c.is_user.ensures (ap not c.if-not-is_user.false)
+
 pub returns : goal.returns
-returns c =
-    let test = is_user c.args.d.words.now c.args.d.count in
-    all_from_yields_List test _ _ c.all.result c.all.ensures.ran (YieldsList-from_slice _ cc) (λ x b q k. search (rules, tests)) ∙ all-items test c.args.slice.now
+returns c = every-stops _ _ _ c.loop-i.invariant (omega arith)
