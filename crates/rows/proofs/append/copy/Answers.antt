@@ -1,4 +1,4 @@
-use Rattle.std.proofs.Common.{◌≡◌, refl, length, take_all, arith, rules}
+use Rattle.std.proofs.Common.{◌≡◌, length, take_all, arith}
 use Rattle.rows.proofs.AppendLaws.{copy-none, copy_more}
 use Rattle.rows.proofs.append.copy.Goals as goal
 
